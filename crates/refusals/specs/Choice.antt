@@ -1,0 +1,16 @@
+-- Choosing by a test, as every definition with a refusal does: `cond test refused (.. rest ..)`, the lowest number first.
+--   cond-true, cond-false   what is chosen, from what the test gives
+--   cond-by                 what holds of both holds of what is chosen, each with what the test then gives
+-- Assumes nothing.
+use mathlib.Core.Path.{_≡_, refl, ap}
+use mathlib.Core.Bool.{Bool, true, false, cond}
+
+pub cond-true : {A : Type 0} (x y : A) {t : Bool} → t ≡ true → cond t x y ≡ x
+cond-true x y e = ap (λ (t : Bool). cond t x y) e
+
+pub cond-false : {A : Type 0} (x y : A) {t : Bool} → t ≡ false → cond t x y ≡ y
+cond-false x y e = ap (λ (t : Bool). cond t x y) e
+
+pub cond-by : {A : Type 0} (P : A → Type 0) (t : Bool) (x y : A) → (t ≡ true → P x) → (t ≡ false → P y) → P (cond t x y)
+cond-by P true x y f g = f refl
+cond-by P false x y f g = g refl
