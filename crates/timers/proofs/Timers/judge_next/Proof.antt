@@ -1,0 +1,28 @@
+-- `timers::Timers::judge_next` meets its contract: the tests, chained by `when`.
+-- Assumes nothing.
+use Rattle.timers.specs.Timers.{judgeNext}
+use borrow.Author.Needs.{needs}
+use Rattle.timers.proofs.Timers.judge_next.Statement.{statement}
+use Rattle.timers.proofs.Timers.judge_next.Tie as tie
+
+too-late-requires : tie.Need-too-late-requires
+too-late-requires c κs = search needs
+
+either-requires : tie.Need-either-requires
+either-requires c κs = search needs
+
+when-requires : tie.Need-when-requires
+when-requires c κs = search needs
+
+kept-requires : tie.Need-kept-requires
+kept-requires c κs = search needs
+
+when-requires-2 : tie.Need-when-requires-2
+when-requires-2 c κs = search needs
+
+returns : tie.Need-returns
+unfolding judgeNext
+returns c = cc
+
+pub judge-next-spec : {M : Type 1} → statement M
+judge-next-spec = tie.close (tie.spec too-late-requires either-requires when-requires kept-requires when-requires-2 returns)
