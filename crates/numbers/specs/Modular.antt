@@ -4,6 +4,7 @@
 --   plus m a k   the number k after a, of m numbers; plus m a 1 is the next one
 --   dist m a b   how far b lies after a, of m numbers: b − a, with m added so that it does not fall below 0
 -- plus and dist are shut: a layer above cites Modular.Laws. Assumes nothing.
+pub mod Examples
 pub mod Laws
 use Prim.Native.Nat.{ℕ, _+_, _-_, _%_, _^_}
 

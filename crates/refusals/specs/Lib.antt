@@ -1,3 +1,4 @@
 pub mod Choice
+pub mod Figures
 pub mod Table
 pub mod Verdict

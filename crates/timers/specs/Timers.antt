@@ -8,6 +8,7 @@
 --   idle, checkPeerIdleTimeout     EXP, and where it has expired the idle timer too
 --   updateSndPeriod, updateRtt, resetExp     the calls that set
 -- Assumes nothing.
+pub mod Always
 pub mod Laws
 use mathlib.Core.Bool.{Bool, true, false, cond, not, _&&_, _||_}
 use Prim.Native.Nat.{ℕ, suc, _+_, min, max}

@@ -15,7 +15,6 @@ use timer::Elapsed;
 use timer::Nanoseconds;
 use timer::Timer;
 
-
 // All timers of a connection, and how often EXP has expired since the peer was last heard.
 #[repr(C)]
 pub struct Timers {
@@ -98,7 +97,10 @@ fn exp_period(exp_count: u32, rtt: Rtt) -> u64
     let mean = rtt.mean as u64;
     let variance = rtt.variance as u64;
     let count = exp_count as u64;
-    let one = larger(4 * (mean * 1_000) + variance * 1_000 + 10_000_000, 300_000_000);
+    let one = larger(
+        4 * (mean * 1_000) + variance * 1_000 + 10_000_000,
+        300_000_000,
+    );
     if timer::PERIOD_MAX / one < count {
         return timer::PERIOD_MAX;
     }
@@ -170,7 +172,11 @@ fn one_more(count: u32) -> u32
 fn judge_new(now: u64, statistics: u64, idle: u64) -> Verdict
     ensures { λ r. ⌜ r ≡ judgeNew now statistics idle ⌝ }
 {
-    let late = refusals::when(timer::TIME_LIMIT <= now, Refusal::BadTime, Verdict::Accepted);
+    let late = refusals::when(
+        timer::TIME_LIMIT <= now,
+        Refusal::BadTime,
+        Verdict::Accepted,
+    );
     let long = either(timer::PERIOD_MAX < statistics, timer::PERIOD_MAX < idle);
     refusals::when(long, Refusal::BadSetting, late)
 }
@@ -181,7 +187,11 @@ impl Timers {
     {
         match judge_new(now, statistics_interval, peer_idle_timeout) {
             Verdict::Refused(r) => TimersSet::Refused(r),
-            Verdict::Accepted => TimersSet::Done(Timers::begun(now, statistics_interval, peer_idle_timeout)),
+            Verdict::Accepted => TimersSet::Done(Timers::begun(
+                now,
+                statistics_interval,
+                peer_idle_timeout,
+            )),
         }
     }
 
@@ -220,7 +230,11 @@ impl Timers {
     fn judge(self, now: u64) -> Verdict
         ensures { λ r. ⌜ r ≡ judge self now ⌝ }
     {
-        let late = refusals::when(timer::TIME_LIMIT <= now, Refusal::BadTime, Verdict::Accepted);
+        let late = refusals::when(
+            timer::TIME_LIMIT <= now,
+            Refusal::BadTime,
+            Verdict::Accepted,
+        );
         refusals::when(!self.kept(), Refusal::BadState, late)
     }
 

@@ -1,5 +1,6 @@
 -- What follows from a verdict.
 --   when-accepted                     where a chain accepts, its first test does not hold and the rest of it accepts
+--   answer-by                         what holds of every refusal, and of the answer where the call is accepted, holds of the call's answer
 --   answer-refused, answer-accepted   what a call answers by the verdict v that its code found, where v is the verdict w of its definition
 -- Assumes nothing.
 use mathlib.Core.Path.{_≡_, refl, sym, ap, _∙_}
@@ -24,3 +25,7 @@ module _ {A : Type 0} (f : Refusal → A) (v w : Verdict) (a : A) (same : v ≡ 
 
   pub answer-accepted : v ≡ Accepted → a ≡ answer f w a
   answer-accepted e = ap (λ (x : Verdict). answer f x a) (sym e ∙ same)
+
+pub answer-by : {A : Type 0} (P : A → Type 0) (f : Refusal → A) (v : Verdict) (a : A) → ((r : Refusal) → P (f r)) → (v ≡ Accepted → P a) → P (answer f v a)
+answer-by P f Accepted a no-change done = done refl
+answer-by P f (Refused r) a no-change done = no-change r

@@ -1,0 +1,26 @@
+-- `pacing::SenderCongestionControl::estimated` meets its contract: both estimates are made over the time of `elapsed`.
+-- Assumes nothing.
+use borrow.Author.Needs.{needs}
+use Rattle.pacing.specs.Pacing.{estimated}
+use Rattle.pacing.proofs.SenderCongestionControl.estimated.Statement.{statement}
+use Rattle.pacing.proofs.SenderCongestionControl.estimated.Tie as tie
+
+elapsed-requires : tie.Need-elapsed-requires
+elapsed-requires c κs = search needs
+
+add-later : tie.Need-add-later
+add-later c = search needs
+
+calculate-requires : tie.Need-calculate-requires
+calculate-requires c κs = search needs
+
+calculate-requires-2 : tie.Need-calculate-requires-2
+calculate-requires-2 c κs = search needs
+
+returns : tie.Need-returns
+unfolding estimated
+returns c = cc
+
+pub estimated-spec : {M : Type 1} → statement M
+estimated-spec =
+    tie.close (tie.spec elapsed-requires add-later calculate-requires calculate-requires-2 returns)

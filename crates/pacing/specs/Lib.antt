@@ -1,0 +1,5 @@
+pub mod Rate
+pub mod Period
+pub mod Books
+pub mod Pacing
+pub mod Examples

@@ -1,0 +1,38 @@
+-- Document 01's table of refusals once more, as figures: the names in its order have the numbers 1 to 14, and three of them bring values.
+-- Assumes nothing.
+use mathlib.Core.Path.{_≡_, refl}
+use mathlib.Core.List.{List, [], _∷_, map}
+use Prim.Native.Nat.{ℕ}
+use Rattle.numbers.specs.declared.SeqNumber.{SeqNumber}
+use Rattle.refusals.specs.Table.{numberOf, valuesOf}
+use Rattle.refusals.specs.declared.Refusal.{Refusal}
+use Rattle.refusals.specs.declared.Refusal.the-variants.{BadSetting, BadStore, BadState, BadTime, TooLong, CountFull, BadNumber, BadRtt, Empty, InvalidAck, StaleFullAck, BadNak, NoRoom, NotHeld}
+
+abbrev number : ℕ → SeqNumber
+number n = record { 0 = n }
+
+abbrev table : List Refusal
+table =
+    BadSetting
+    ∷ BadStore
+    ∷ BadState
+    ∷ BadTime
+    ∷ TooLong
+    ∷ CountFull
+    ∷ BadNumber
+    ∷ BadRtt
+    ∷ Empty
+    ∷ InvalidAck (number 21) (number 22) (number 23)
+    ∷ StaleFullAck 24 25
+    ∷ BadNak 26
+    ∷ NoRoom
+    ∷ NotHeld
+    ∷ []
+
+pub record Figures : Type 0 where
+  pub numbers : map numberOf table ≡ 1 ∷ 2 ∷ 3 ∷ 4 ∷ 5 ∷ 6 ∷ 7 ∷ 8 ∷ 9 ∷ 10 ∷ 11 ∷ 12 ∷ 13 ∷ 14 ∷ []
+  -- "with only what the table names": 10 all three, 11 both, 12 the index
+  pub values : map valuesOf table ≡ [] ∷ [] ∷ [] ∷ [] ∷ [] ∷ [] ∷ [] ∷ [] ∷ [] ∷ (21 ∷ 22 ∷ 23 ∷ []) ∷ (24 ∷ 25 ∷ []) ∷ (26 ∷ []) ∷ [] ∷ [] ∷ []
+
+pub figures : Figures
+figures = record { numbers = refl; values = refl }

@@ -1,0 +1,30 @@
+-- Worked examples of one timer, from document 01, "Timers", so that a definition that is wrong in code and specs alike is refused.
+-- Assumes nothing.
+use mathlib.Core.Path.{_≡_, refl}
+use Prim.Native.Nat.{ℕ, _-_, _^_}
+use Rattle.refusals.specs.declared.Refusal.the-variants.{BadSetting, BadTime}
+use Rattle.timer.specs.declared.Elapsed.the-variants.{Nothing, Periods}
+use Rattle.timer.specs.declared.TimerSet.the-variants.{Done, Refused}
+use Rattle.timer.specs.Timer.{timer, made, setPeriod, ticked, periods}
+
+pub record Examples : Type 0 where
+  -- "A new timer's period is at least 1,000; a set one may be 0"
+  pub raised : made 7 999 ≡ Done (timer 1_000 7)
+  pub not-raised : setPeriod (timer 1_000 7) 0 ≡ Done (timer 0 7)
+  -- "periods to 10^15 (BadSetting above)"; "nanoseconds below 2^58"
+  pub longest-in : made 7 1_000_000_000_000_000 ≡ Done (timer 1_000_000_000_000_000 7)
+  pub longer : made 7 1_000_000_000_000_001 ≡ Refused BadSetting
+  pub too-late : made (2 ^ 58) 1_000 ≡ Refused BadTime
+  -- "always answers 1 and doesn't move"
+  pub zero-period : ticked (timer 0 7) 100 ≡ record { elapsed = Periods 1; timer = timer 0 7 }
+  -- "nothing before origin + period, and from then on floor(elapsed / period) .. and the origin moves by that many periods"
+  pub before : ticked (timer 10 7) 16 ≡ record { elapsed = Nothing; timer = timer 10 7 }
+  pub just : ticked (timer 10 7) 17 ≡ record { elapsed = Periods 1; timer = timer 10 17 }
+  pub more : ticked (timer 10 7) 36 ≡ record { elapsed = Periods 2; timer = timer 10 27 }
+  -- "held at 2^32 − 1"
+  pub held : ticked (timer 1 0) (2 ^ 40) ≡ record { elapsed = Periods 4_294_967_295; timer = timer 1 4_294_967_295 }
+
+pub examples : Examples
+unfolding made setPeriod ticked periods
+examples =
+    record { raised = refl; not-raised = refl; longest-in = refl; longer = refl; too-late = refl; zero-period = refl; before = refl; just = refl; more = refl; held = refl }
