@@ -3,16 +3,18 @@
 -- Assumes nothing.
 use mathlib.Core.Path.{_≡_, refl}
 use mathlib.Core.Bool.{true, false}
-use Prim.Native.Nat.{ℕ, _-_, _^_}
+use Prim.Native.Nat.{ℕ}
+use Rattle.refusals.specs.declared.Refusal.the-variants.{BadSetting, BadState}
 use Rattle.rtt.specs.declared.Rtt.{Rtt}
 use Rattle.rtt.specs.Rtt.{start}
 use Rattle.timer.specs.declared.Elapsed.the-variants.{Nothing, Periods}
 use Rattle.timer.specs.Timer.{timer, ticked, periods}
 use Rattle.timers.specs.declared.NextMessage.the-variants.{Unknown, At}
 use Rattle.timers.specs.declared.Timers.{Timers}
+use Rattle.timers.specs.declared.TimersSet.the-variants as set
 use Rattle.timers.specs.declared.TimersChecked.the-variants.{Done}
 use Rattle.timers.specs.Periods.{nakPeriod, expPeriod, calculatePeriods}
-use Rattle.timers.specs.Timers.{timers, begun, wake, idle, idleAfter}
+use Rattle.timers.specs.Timers.{timers, wake, judgePeriod, updateSndPeriod, judgeRtt, updateRtt, idle, idleAfter}
 
 -- timers that all start at 0, with EXP at 10, idle at 15 and this EXP count
 abbrev quiet : ℕ → Timers
@@ -36,6 +38,9 @@ pub record Examples : Type 0 where
   pub wake-ack : wake (quiet 1) 3 false (At 8) 1 ≡ 6
   pub wake-snd : wake (quiet 1) 3 true (At 8) 1 ≡ 5
   pub wake-now : wake (quiet 1) 9 true (At 8) 1 ≡ 9
+  -- the lowest refusal is told: 1 before 3, 3 before 8
+  pub lowest-setting : updateSndPeriod (quiet 0) 1_000_000_000_000_001 ≡ set.Refused BadSetting
+  pub lowest-state : updateRtt (quiet 0) (rtt 100_000_001 0) ≡ set.Refused BadState
   -- EXP not expired: nothing moves. Expired: it moves on, the idle timer too though it is not heard, and the count goes up
   pub exp-quiet : idle (quiet 1) 9 ≡ Done Nothing (quiet 1)
   pub idle-silent : idle (quiet 16) 20 ≡ Done Nothing (timers (timer 5 0) (timer 6 0) (timer 70 0) (timer 10 20) 17 (timer 15 15) (timer 90 0))
@@ -43,7 +48,7 @@ pub record Examples : Type 0 where
   pub count-held : idle (quiet 4_294_967_295) 10 ≡ Done Nothing (timers (timer 5 0) (timer 6 0) (timer 70 0) (timer 10 10) 4_294_967_295 (timer 15 0) (timer 90 0))
 
 pub examples : Examples
-unfolding expPeriod wake idle idleAfter ticked periods
+unfolding expPeriod wake updateSndPeriod judgePeriod updateRtt judgeRtt idle idleAfter ticked periods
 examples =
     record {
       starting = refl;
@@ -56,6 +61,8 @@ examples =
       wake-ack = refl;
       wake-snd = refl;
       wake-now = refl;
+      lowest-setting = refl;
+      lowest-state = refl;
       exp-quiet = refl;
       idle-silent = refl;
       idle-heard = refl;

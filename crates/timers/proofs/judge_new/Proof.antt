@@ -8,9 +8,6 @@ use Rattle.timers.proofs.judge_new.Tie as tie
 when-requires : tie.Need-when-requires
 when-requires c κs = search needs
 
-either-requires : tie.Need-either-requires
-either-requires c κs = search needs
-
 when-requires-2 : tie.Need-when-requires-2
 when-requires-2 c κs = search needs
 
@@ -19,4 +16,4 @@ unfolding judgeNew
 returns c = cc
 
 pub judge-new-spec : {M : Type 1} → statement M
-judge-new-spec = tie.close (tie.spec when-requires either-requires when-requires-2 returns)
+judge-new-spec = tie.close (tie.spec when-requires when-requires-2 returns)

@@ -8,9 +8,6 @@ use Rattle.timers.proofs.Timers.judge_next.Tie as tie
 too-late-requires : tie.Need-too-late-requires
 too-late-requires c κs = search needs
 
-either-requires : tie.Need-either-requires
-either-requires c κs = search needs
-
 when-requires : tie.Need-when-requires
 when-requires c κs = search needs
 
@@ -25,4 +22,4 @@ unfolding judgeNext
 returns c = cc
 
 pub judge-next-spec : {M : Type 1} → statement M
-judge-next-spec = tie.close (tie.spec too-late-requires either-requires when-requires kept-requires when-requires-2 returns)
+judge-next-spec = tie.close (tie.spec too-late-requires when-requires kept-requires when-requires-2 returns)

@@ -7,20 +7,11 @@ use Rattle.timers.proofs.Timers.kept.Tie as tie
 kept-requires : tie.Need-kept-requires
 kept-requires c κs = search needs
 
-both-requires : tie.Need-both-requires
-both-requires c κs = search needs
-
 kept-requires-2 : tie.Need-kept-requires-2
 kept-requires-2 c κs = search needs
 
 kept-requires-3 : tie.Need-kept-requires-3
 kept-requires-3 c κs = search needs
-
-both-requires-2 : tie.Need-both-requires-2
-both-requires-2 c κs = search needs
-
-both-requires-3 : tie.Need-both-requires-3
-both-requires-3 c κs = search needs
 
 kept-requires-4 : tie.Need-kept-requires-4
 kept-requires-4 c κs = search needs
@@ -31,32 +22,8 @@ kept-requires-5 c κs = search needs
 kept-requires-6 : tie.Need-kept-requires-6
 kept-requires-6 c κs = search needs
 
-both-requires-4 : tie.Need-both-requires-4
-both-requires-4 c κs = search needs
-
-both-requires-5 : tie.Need-both-requires-5
-both-requires-5 c κs = search needs
-
-both-requires-6 : tie.Need-both-requires-6
-both-requires-6 c κs = search needs
-
 returns : tie.Need-returns
 returns c = cc
 
 pub kept-spec : {M : Type 1} → statement M
-kept-spec =
-    tie.close
-    (tie.spec
-    kept-requires
-    both-requires
-    kept-requires-2
-    kept-requires-3
-    both-requires-2
-    both-requires-3
-    kept-requires-4
-    kept-requires-5
-    kept-requires-6
-    both-requires-4
-    both-requires-5
-    both-requires-6
-    returns)
+kept-spec = tie.close (tie.spec kept-requires kept-requires-2 kept-requires-3 kept-requires-4 kept-requires-5 kept-requires-6 returns)

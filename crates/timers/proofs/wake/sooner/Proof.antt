@@ -1,8 +1,8 @@
--- `timers::sooner` meets its contract: the branch goes by `on`; the sum fits, since the timer is kept.
+-- `timers::wake::sooner` meets its contract: the branch goes by `on`; the sum fits, since the timer is kept.
 -- Assumes nothing.
 use borrow.Author.Needs.{needs}
-use Rattle.timers.proofs.sooner.Statement.{statement}
-use Rattle.timers.proofs.sooner.Tie as tie
+use Rattle.timers.proofs.wake.sooner.Statement.{statement}
+use Rattle.timers.proofs.wake.sooner.Tie as tie
 
 add-smaller : tie.Need-add-smaller
 add-smaller c = search needs

@@ -1,8 +1,8 @@
--- `timers::calculate_periods` meets its contract, field by field.
+-- `timers::from_rtt::calculate_periods` meets its contract, field by field.
 -- Assumes nothing.
 use borrow.Author.Needs.{needs}
-use Rattle.timers.proofs.calculate_periods.Statement.{statement}
-use Rattle.timers.proofs.calculate_periods.Tie as tie
+use Rattle.timers.proofs.from_rtt.calculate_periods.Statement.{statement}
+use Rattle.timers.proofs.from_rtt.calculate_periods.Tie as tie
 
 nak-period-requires : tie.Need-nak-period-requires
 nak-period-requires c κs = search needs

@@ -1,11 +1,11 @@
--- `timers::message_or` meets its contract, by the case of the message.
+-- `timers::wake::message_or` meets its contract, by the case of the message.
 -- Assumes nothing.
 use mathlib.Core.Path.{_∙_, sym, ap}
 use Rattle.timers.specs.declared.NextMessage.{NextMessage}
 use Rattle.timers.specs.Timers.{messageOr}
 use borrow.Author.Needs.{needs}
-use Rattle.timers.proofs.message_or.Statement.{statement}
-use Rattle.timers.proofs.message_or.Tie as tie
+use Rattle.timers.proofs.wake.message_or.Statement.{statement}
+use Rattle.timers.proofs.wake.message_or.Tie as tie
 
 enum-told : tie.Need-enum-told
 enum-told c = search needs

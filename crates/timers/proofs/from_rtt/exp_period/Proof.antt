@@ -1,4 +1,4 @@
--- `timers::exp_period` meets its contract: where the longest period holds fewer than `count` times the single one, the product passes it
+-- `timers::from_rtt::exp_period` meets its contract: where the longest period holds fewer than `count` times the single one, the product passes it
 -- (`exp-held`); else it is multiplied out (`exp-free`), and fits.
 -- Assumes nothing.
 use Prim.Native.Nat.{_+_, _*_, _<_}
@@ -8,8 +8,8 @@ use Rattle.timer.specs.Timer.{longest}
 use Rattle.timers.specs.Periods.{ns, expPeriod}
 use Rattle.timers.specs.Periods.Laws.{exp-held, exp-free}
 use borrow.Author.Needs.{needs}
-use Rattle.timers.proofs.exp_period.Statement.{statement}
-use Rattle.timers.proofs.exp_period.Tie as tie
+use Rattle.timers.proofs.from_rtt.exp_period.Statement.{statement}
+use Rattle.timers.proofs.from_rtt.exp_period.Tie as tie
 
 cast-mean : tie.Need-cast-mean
 cast-mean c = search needs

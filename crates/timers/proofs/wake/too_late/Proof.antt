@@ -1,10 +1,10 @@
--- `timers::too_late` meets its contract, by the case of the message.
+-- `timers::wake::too_late` meets its contract, by the case of the message.
 -- Assumes nothing.
 use mathlib.Core.Path.{sym, ap}
 use Rattle.timers.specs.Timers.{tooLate}
 use borrow.Author.Needs.{needs}
-use Rattle.timers.proofs.too_late.Statement.{statement}
-use Rattle.timers.proofs.too_late.Tie as tie
+use Rattle.timers.proofs.wake.too_late.Statement.{statement}
+use Rattle.timers.proofs.wake.too_late.Tie as tie
 
 enum-told : tie.Need-enum-told
 enum-told c = search needs
