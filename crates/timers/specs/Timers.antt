@@ -4,7 +4,7 @@
 --   judge, judgeNew, judgeNext, judgePeriod, judgeRtt     the refusals of the calls, each in the order of their numbers
 --   begun, new            the timers at the start; the call
 --   wake, nextTimer       when the host must wake at the latest; the call
---   checkSnd, checkFullAck, checkNak, checkStatistics     one timer is checked, and no other moves
+--   check, checkSnd, checkFullAck, checkNak, checkStatistics     one timer is checked, and no other moves
 --   idle, checkPeerIdleTimeout     EXP, and where it has expired the idle timer too
 --   updateSndPeriod, updateRtt, resetExp     the calls that set
 -- Assumes nothing.
@@ -29,6 +29,8 @@ use Rattle.timers.specs.declared.Periods as three
 use Rattle.timers.specs.declared.NextMessage.{NextMessage}
 use Rattle.timers.specs.declared.NextMessage.the-variants.{Unknown, At}
 use Rattle.timers.specs.declared.Timers.{Timers}
+use Rattle.timers.specs.declared.Which.{Which}
+use Rattle.timers.specs.declared.Which.the-variants.{Snd, FullAck, Nak, Statistics}
 use Rattle.timers.specs.declared.TimersSet.{TimersSet}
 use Rattle.timers.specs.declared.TimersSet.the-variants as set
 use Rattle.timers.specs.declared.TimersChecked.{TimersChecked}
@@ -99,29 +101,35 @@ unfoldable pub nextTimer : Timers → ℕ → Bool → NextMessage → ℕ → N
 nextTimer ts now packets message unacked =
     answer read.Refused (judgeNext ts now message) (read.Are (wake ts now packets message unacked))
 
--- one timer t is checked, and becomes one of the timers again
-abbrev pub checkOne : Verdict → Timer → ℕ → (Timer → Timers) → TimersChecked
-checkOne v t now put = let x = ticked t now in answer checked.Refused v (checked.Done (x .elapsed) (put (x .timer)))
+-- the timer that a check speaks of, and the timers with another one in its place
+abbrev pub timerOf : Which → Timers → Timer
+timerOf Snd ts = ts .snd
+timerOf FullAck ts = ts .«full_ack»
+timerOf Nak ts = ts .nak
+timerOf Statistics ts = ts .statistics
 
-unfoldable pub checkSnd : Timers → ℕ → TimersChecked
-checkSnd ts now =
-    checkOne (judge ts now) (ts .snd) now
-    (λ t. timers t (ts .«full_ack») (ts .nak) (ts .exp) (ts .«exp_count») (ts .«peer_idle») (ts .statistics))
+abbrev pub withTimer : Which → Timer → Timers → Timers
+withTimer Snd t ts = timers t (ts .«full_ack») (ts .nak) (ts .exp) (ts .«exp_count») (ts .«peer_idle») (ts .statistics)
+withTimer FullAck t ts = timers (ts .snd) t (ts .nak) (ts .exp) (ts .«exp_count») (ts .«peer_idle») (ts .statistics)
+withTimer Nak t ts = timers (ts .snd) (ts .«full_ack») t (ts .exp) (ts .«exp_count») (ts .«peer_idle») (ts .statistics)
+withTimer Statistics t ts = timers (ts .snd) (ts .«full_ack») (ts .nak) (ts .exp) (ts .«exp_count») (ts .«peer_idle») t
 
-unfoldable pub checkFullAck : Timers → ℕ → TimersChecked
-checkFullAck ts now =
-    checkOne (judge ts now) (ts .«full_ack») now
-    (λ t. timers (ts .snd) t (ts .nak) (ts .exp) (ts .«exp_count») (ts .«peer_idle») (ts .statistics))
+unfoldable pub check : Which → Timers → ℕ → TimersChecked
+check which ts now =
+    let x = ticked (timerOf which ts) now in
+    answer checked.Refused (judge ts now) (checked.Done (x .elapsed) (withTimer which (x .timer) ts))
 
-unfoldable pub checkNak : Timers → ℕ → TimersChecked
-checkNak ts now =
-    checkOne (judge ts now) (ts .nak) now
-    (λ t. timers (ts .snd) (ts .«full_ack») t (ts .exp) (ts .«exp_count») (ts .«peer_idle») (ts .statistics))
+abbrev pub checkSnd : Timers → ℕ → TimersChecked
+checkSnd ts now = check Snd ts now
 
-unfoldable pub checkStatistics : Timers → ℕ → TimersChecked
-checkStatistics ts now =
-    checkOne (judge ts now) (ts .statistics) now
-    (λ t. timers (ts .snd) (ts .«full_ack») (ts .nak) (ts .exp) (ts .«exp_count») (ts .«peer_idle») t)
+abbrev pub checkFullAck : Timers → ℕ → TimersChecked
+checkFullAck ts now = check FullAck ts now
+
+abbrev pub checkNak : Timers → ℕ → TimersChecked
+checkNak ts now = check Nak ts now
+
+abbrev pub checkStatistics : Timers → ℕ → TimersChecked
+checkStatistics ts now = check Statistics ts now
 
 -- EXP has expired and become exp: the idle timer is checked and moves on; it is heard where EXP's count is over 16, else the count goes up
 abbrev pub heard : Elapsed → Bool → Bool

@@ -2,9 +2,10 @@
 ghost use mathlib.Core.Path.{_≡_};
 ghost use Prim.Native.Nat.{_+_, min};
 ghost use Rattle.timer.specs.Timer.{most};
-ghost use Rattle.timers.specs.Timers.{checkSnd, checkFullAck, checkNak, checkStatistics, heard, idleAfter, idle, checkPeerIdleTimeout};
+ghost use Rattle.timers.specs.Timers.{timerOf, withTimer, check, checkSnd, checkFullAck, checkNak, checkStatistics, heard, idleAfter, idle, checkPeerIdleTimeout};
 use crate::Timers;
 use crate::TimersChecked;
+use crate::Which;
 use refusals::Verdict;
 use timer::Elapsed;
 use timer::Timer;
@@ -34,72 +35,68 @@ fn one_more(count: u32) -> u32
 }
 
 impl Timers {
-    pub fn check_snd(self, now: u64) -> TimersChecked
-        ensures { λ r. ⌜ r ≡ checkSnd self now ⌝ }
+    // The timer that a check speaks of.
+    fn timer_of(self, which: Which) -> Timer
+        ensures { λ r. ⌜ r ≡ timerOf which self ⌝ }
+    {
+        match which {
+            Which::Snd => self.snd,
+            Which::FullAck => self.full_ack,
+            Which::Nak => self.nak,
+            Which::Statistics => self.statistics,
+        }
+    }
+
+    // The timers with another one in its place.
+    fn with_timer(self, which: Which, timer: Timer) -> Timers
+        ensures { λ r. ⌜ r ≡ withTimer which timer self ⌝ }
+    {
+        let mut after = self;
+        match which {
+            Which::Snd => after.snd = timer,
+            Which::FullAck => after.full_ack = timer,
+            Which::Nak => after.nak = timer,
+            Which::Statistics => after.statistics = timer,
+        }
+        after
+    }
+
+    fn check(self, which: Which, now: u64) -> TimersChecked
+        ensures { λ r. ⌜ r ≡ check which self now ⌝ }
     {
         match self.judge(now) {
             Verdict::Refused(r) => TimersChecked::Refused(r),
             Verdict::Accepted => {
-                let timer = self.snd;
-                let t = timer.tick(now);
+                let t = self.timer_of(which).tick(now);
                 let elapsed = t.elapsed;
                 let moved = t.timer;
-                let mut after = self;
-                after.snd = moved;
-                TimersChecked::Done(elapsed, after)
+                TimersChecked::Done(elapsed, self.with_timer(which, moved))
             }
         }
+    }
+
+    pub fn check_snd(self, now: u64) -> TimersChecked
+        ensures { λ r. ⌜ r ≡ checkSnd self now ⌝ }
+    {
+        self.check(Which::Snd, now)
     }
 
     pub fn check_full_ack(self, now: u64) -> TimersChecked
         ensures { λ r. ⌜ r ≡ checkFullAck self now ⌝ }
     {
-        match self.judge(now) {
-            Verdict::Refused(r) => TimersChecked::Refused(r),
-            Verdict::Accepted => {
-                let timer = self.full_ack;
-                let t = timer.tick(now);
-                let elapsed = t.elapsed;
-                let moved = t.timer;
-                let mut after = self;
-                after.full_ack = moved;
-                TimersChecked::Done(elapsed, after)
-            }
-        }
+        self.check(Which::FullAck, now)
     }
 
     pub fn check_nak(self, now: u64) -> TimersChecked
         ensures { λ r. ⌜ r ≡ checkNak self now ⌝ }
     {
-        match self.judge(now) {
-            Verdict::Refused(r) => TimersChecked::Refused(r),
-            Verdict::Accepted => {
-                let timer = self.nak;
-                let t = timer.tick(now);
-                let elapsed = t.elapsed;
-                let moved = t.timer;
-                let mut after = self;
-                after.nak = moved;
-                TimersChecked::Done(elapsed, after)
-            }
-        }
+        self.check(Which::Nak, now)
     }
 
     pub fn check_statistics(self, now: u64) -> TimersChecked
         ensures { λ r. ⌜ r ≡ checkStatistics self now ⌝ }
     {
-        match self.judge(now) {
-            Verdict::Refused(r) => TimersChecked::Refused(r),
-            Verdict::Accepted => {
-                let timer = self.statistics;
-                let t = timer.tick(now);
-                let elapsed = t.elapsed;
-                let moved = t.timer;
-                let mut after = self;
-                after.statistics = moved;
-                TimersChecked::Done(elapsed, after)
-            }
-        }
+        self.check(Which::Statistics, now)
     }
 
     // Nothing at all happens unless EXP has expired.

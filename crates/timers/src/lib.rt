@@ -37,6 +37,14 @@ pub enum NextMessage {
     At(u64),
 }
 
+// The timers that a check of their own has.
+pub enum Which {
+    Snd,
+    FullAck,
+    Nak,
+    Statistics,
+}
+
 // The timers made or set.
 pub enum TimersSet {
     Done(Timers),

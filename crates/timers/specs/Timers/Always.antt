@@ -1,7 +1,7 @@
 -- The book rules of the timers hold after every call: document 01, "Book rules"; what a refused call leaves is what it found.
 --   Set a, Checked a                  the timers that an answer brings are kept
 --   new-kept                          so after `Timers::new`
---   snd-kept, ack-kept, nak-kept, statistics-kept, idle-kept     after a check
+--   check-kept, idle-kept             after a check
 --   period-kept, rtt-kept, reset-kept after a call that sets
 -- Assumes nothing.
 use mathlib.Core.Path.{_≡_, refl}
@@ -22,12 +22,14 @@ use Rattle.timer.specs.declared.Elapsed.the-variants.{Nothing, Periods}
 use Rattle.timer.specs.Timer.{timeLimit, longest, started, ticked}
 use Rattle.timer.specs.Timer.Laws.{Kept, tick-kept}
 use Rattle.timers.specs.declared.Timers.{Timers}
+use Rattle.timers.specs.declared.Which.{Which}
+use Rattle.timers.specs.declared.Which.the-variants.{Snd, FullAck, Nak, Statistics}
 use Rattle.timers.specs.declared.TimersSet.{TimersSet}
 use Rattle.timers.specs.declared.TimersSet.the-variants as set
 use Rattle.timers.specs.declared.TimersChecked.{TimersChecked}
 use Rattle.timers.specs.declared.TimersChecked.the-variants as checked
 use Rattle.timers.specs.Periods.{expPeriod}
-use Rattle.timers.specs.Timers.{keptAll, judge, judgeNew, judgePeriod, judgeRtt, new, checkOne, checkSnd, checkFullAck, checkNak, checkStatistics, heard, expired, idleAfter, idle, checkPeerIdleTimeout, updateSndPeriod, updateRtt, resetExp}
+use Rattle.timers.specs.Timers.{keptAll, judge, judgeNew, judgePeriod, judgeRtt, new, timerOf, withTimer, check, heard, expired, idleAfter, idle, checkPeerIdleTimeout, updateSndPeriod, updateRtt, resetExp}
 use Rattle.timers.specs.Timers.Laws.{KeptAll, accepted-kept, accepted-ranged}
 
 abbrev pub Set : TimersSet → Type 0
@@ -76,34 +78,23 @@ module _ (ts : Timers) (now : ℕ) where
       let rest = when-accepted (not (keptAll ts)) BadState (when (leb timeLimit now) BadTime verdict.Accepted) e .1 in
       (accepted-kept ts _ e, leb-false timeLimit now (when-accepted (leb timeLimit now) BadTime verdict.Accepted rest .0))
 
-  one-kept : (t : Timer) (put : Timer → Timers) → (KeptAll ts → Kept t) → ((x : Timer) → KeptAll ts → Kept x → KeptAll (put x)) → Checked (checkOne (judge ts now) t now put)
-  one-kept t put old new =
+  pub check-kept : (which : Which) → Checked (check which ts now)
+  unfolding check
+  check-kept which =
       answer-by Checked checked.Refused (judge ts now) _ (λ r. tt)
-      (λ e. let k = told e in new _ (k .0) (tick-kept t now (k .1) (old (k .0))))
+      (λ e. let k = told e in put which _ (k .0) (tick-kept (timerOf which ts) now (k .1) (of which (k .0))))
+    where
+      of : (w : Which) → KeptAll ts → Kept (timerOf w ts)
+      of Snd k = k .snd
+      of FullAck k = k .ack
+      of Nak k = k .nak
+      of Statistics k = k .statistics
 
-  pub snd-kept : Checked (checkSnd ts now)
-  unfolding checkSnd
-  snd-kept =
-      one-kept (ts .snd) _ (λ k. k .snd)
-      (λ x k h. record { snd = h; ack = k .ack; nak = k .nak; exp = k .exp; idle = k .idle; statistics = k .statistics; count = k .count })
-
-  pub ack-kept : Checked (checkFullAck ts now)
-  unfolding checkFullAck
-  ack-kept =
-      one-kept (ts .«full_ack») _ (λ k. k .ack)
-      (λ x k h. record { snd = k .snd; ack = h; nak = k .nak; exp = k .exp; idle = k .idle; statistics = k .statistics; count = k .count })
-
-  pub nak-kept : Checked (checkNak ts now)
-  unfolding checkNak
-  nak-kept =
-      one-kept (ts .nak) _ (λ k. k .nak)
-      (λ x k h. record { snd = k .snd; ack = k .ack; nak = h; exp = k .exp; idle = k .idle; statistics = k .statistics; count = k .count })
-
-  pub statistics-kept : Checked (checkStatistics ts now)
-  unfolding checkStatistics
-  statistics-kept =
-      one-kept (ts .statistics) _ (λ k. k .statistics)
-      (λ x k h. record { snd = k .snd; ack = k .ack; nak = k .nak; exp = k .exp; idle = k .idle; statistics = h; count = k .count })
+      put : (w : Which) (t : Timer) → KeptAll ts → Kept t → KeptAll (withTimer w t ts)
+      put Snd t k h = record { snd = h; ack = k .ack; nak = k .nak; exp = k .exp; idle = k .idle; statistics = k .statistics; count = k .count }
+      put FullAck t k h = record { snd = k .snd; ack = h; nak = k .nak; exp = k .exp; idle = k .idle; statistics = k .statistics; count = k .count }
+      put Nak t k h = record { snd = k .snd; ack = k .ack; nak = h; exp = k .exp; idle = k .idle; statistics = k .statistics; count = k .count }
+      put Statistics t k h = record { snd = k .snd; ack = k .ack; nak = k .nak; exp = k .exp; idle = k .idle; statistics = h; count = k .count }
 
   after-kept : (exp : Timer) → KeptAll ts → Kept exp → now < timeLimit → Checked (idleAfter ts exp now)
   unfolding idleAfter
