@@ -1,0 +1,213 @@
+//! What a call answers and how it is written: one line, with indented lines
+//! below it where the answer is a list.
+
+use std::fmt::{self, Display, Formatter};
+
+use calls::{
+    Acked, Loss, LossRun, PacingState, Piece, Pushed, Ran, Refusal, Reports, Sent, State,
+    TimerState, TimersState,
+};
+
+use crate::call::hex;
+
+#[derive(Clone, Debug, PartialEq, Eq)]
+pub enum Answer {
+    Done,
+    /// The sender or leaf was refused when it was to be made.
+    Nothing,
+    Refused(Refusal),
+    Pushed(Pushed),
+    Acked(Acked),
+    Runs(Vec<LossRun>),
+    Ran(Ran),
+    Reports(Reports),
+    Payload(Vec<u8>),
+    Sent(Vec<Sent>),
+    State(Box<State>),
+    Fired(Option<u32>),
+    At(u64),
+    Timer(TimerState),
+    Timers(TimersState),
+    Period(Option<u64>),
+    Pacing(PacingState),
+    Pieces(Vec<Piece>),
+    Header([u8; 16]),
+}
+
+/// A value that may be missing, then `-`.
+struct Maybe<T>(Option<T>);
+
+impl<T: Display> Display for Maybe<T> {
+    fn fmt(&self, f: &mut Formatter) -> fmt::Result {
+        match &self.0 {
+            Some(value) => value.fmt(f),
+            None => write!(f, "-"),
+        }
+    }
+}
+
+/// Bytes in groups of four, a record's last eight together.
+fn grouped(bytes: &[u8]) -> String {
+    let cut = if bytes.len() == 24 { 16 } else { bytes.len() };
+    let mut groups: Vec<String> = bytes[..cut].chunks(4).map(hex).collect();
+    if cut < bytes.len() {
+        groups.push(hex(&bytes[cut..]));
+    }
+    groups.join(" ")
+}
+
+impl Display for Answer {
+    fn fmt(&self, f: &mut Formatter) -> fmt::Result {
+        match self {
+            Answer::Done => write!(f, "done"),
+            Answer::Nothing => write!(f, "nothing there"),
+            Answer::Refused(refusal) => refused(f, refusal),
+            Answer::Pushed(a) => write!(
+                f,
+                "made {} removed {} bytes {} period {}",
+                a.made,
+                a.removed,
+                a.removed_bytes,
+                Maybe(a.period)
+            ),
+            Answer::Acked(a) => {
+                let full = Maybe(a.full);
+                write!(
+                    f,
+                    "received {} recovered {} full {full}",
+                    a.received, a.recovered
+                )
+            }
+            Answer::Runs(runs) => loss_runs(f, runs),
+            Answer::Ran(ran) => {
+                write!(f, "records {} left {}", ran.records.len(), ran.left)?;
+                let mut records = ran.records.iter();
+                records.try_for_each(|record| write!(f, "\n  {}", grouped(record)))
+            }
+            Answer::Reports(r) => write!(
+                f,
+                "flushed {} to_send {} packets {} bytes {} time {}",
+                u8::from(r.flushed),
+                u8::from(r.has_packets_to_send),
+                r.packets,
+                r.bytes,
+                r.time
+            ),
+            Answer::Payload(bytes) => write!(f, "payload {} {}", bytes.len(), hex(bytes)),
+            Answer::Sent(sent) => {
+                write!(f, "sent {}", sent.len())?;
+                let mut all = sent.iter();
+                all.try_for_each(|s| write!(f, "\n  {} : {}", grouped(&s.header), hex(&s.payload)))
+            }
+            Answer::State(state) => sender_state(f, state),
+            Answer::Fired(periods) => write!(f, "fired {}", Maybe(*periods)),
+            Answer::At(at) => write!(f, "at {at}"),
+            Answer::Timer(timer) => write!(f, "origin {} period {}", timer.origin, timer.period),
+            Answer::Timers(timers) => timers_state(f, timers),
+            Answer::Period(period) => write!(f, "period {}", Maybe(*period)),
+            Answer::Pacing(pacing) => pacing_state(f, pacing),
+            Answer::Pieces(pieces) => {
+                write!(f, "pieces {}", pieces.len())?;
+                let mut all = pieces.iter();
+                all.try_for_each(|p| write!(f, " {:02b}:{}", p.place, p.length))
+            }
+            Answer::Header(bytes) => write!(f, "header {}", grouped(bytes)),
+        }
+    }
+}
+
+fn refused(f: &mut Formatter, refusal: &Refusal) -> fmt::Result {
+    write!(f, "refused {} {}", refusal.number(), refusal.name())?;
+    match refusal {
+        Refusal::InvalidAck { ack, first, next } => {
+            write!(f, " ack {ack} first {first} next {next}")
+        }
+        Refusal::StaleFullAck { full, expected } => write!(f, " full {full} expected {expected}"),
+        Refusal::BadNak { index } => write!(f, " index {index}"),
+        _ => Ok(()),
+    }
+}
+
+fn loss_runs(f: &mut Formatter, runs: &[LossRun]) -> fmt::Result {
+    write!(f, "runs {}", runs.len())?;
+    for run in runs {
+        let kind = match run.loss {
+            Loss::Added => "added",
+            Loss::Ignored => "ignored",
+            Loss::Dropped => "dropped",
+        };
+        write!(f, "\n  {kind} {} {}", run.first, run.end)?;
+    }
+    Ok(())
+}
+
+fn sender_state(f: &mut Formatter, state: &State) -> fmt::Result {
+    write!(
+        f,
+        "state packets {} next_unsent {} next_number {} next_message {} rtt {} {} bytes {} \
+         expected_full {} resend_entries {}",
+        state.packets.len(),
+        state.next_unsent,
+        state.next_number,
+        state.next_message,
+        state.rtt.mean,
+        state.rtt.variance,
+        state.bytes,
+        state.expected_full,
+        state.resend_entries
+    )?;
+    for p in &state.packets {
+        write!(
+            f,
+            "\n  packet {} time {} message {} place {:02b} length {} count {} due {} sum {:016x}",
+            p.number,
+            p.time,
+            p.message,
+            p.place,
+            p.length,
+            p.count,
+            Maybe(p.due),
+            p.sum
+        )?;
+    }
+    write!(f, "\n  lost")?;
+    for number in &state.lost {
+        write!(f, " {number}")?;
+    }
+    write!(f, "\n  ")?;
+    pacing_state(f, &state.pacing)
+}
+
+fn pacing_state(f: &mut Formatter, pacing: &PacingState) -> fmt::Result {
+    write!(
+        f,
+        "pacing next {} packets {} bytes {} packet_rate {} {} byte_rate {} {}",
+        Maybe(pacing.next),
+        pacing.packets,
+        pacing.bytes,
+        pacing.packet_mean,
+        pacing.packet_variance,
+        pacing.byte_mean,
+        pacing.byte_variance
+    )
+}
+
+fn timers_state(f: &mut Formatter, timers: &TimersState) -> fmt::Result {
+    write!(f, "timers exp_count {}", timers.exp_count)?;
+    let all = [
+        ("snd", timers.snd),
+        ("ack", timers.full_ack),
+        ("nak", timers.nak),
+        ("exp", timers.exp),
+        ("idle", timers.peer_idle),
+        ("statistics", timers.statistics),
+    ];
+    let mut all = all.iter();
+    all.try_for_each(|(name, timer)| {
+        write!(
+            f,
+            "\n  {name} origin {} period {}",
+            timer.origin, timer.period
+        )
+    })
+}

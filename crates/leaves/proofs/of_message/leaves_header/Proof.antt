@@ -1,0 +1,17 @@
+-- `leaves::of_message::leaves_header` meets its contract: what its calls ensure, one put into the other.
+-- Assumes nothing.
+use borrow.Author.Needs.{needs}
+use Rattle.leaves.proofs.of_message.leaves_header.Statement.{statement}
+use Rattle.leaves.proofs.of_message.leaves_header.Tie as tie
+
+place-of-requires : tie.Need-place-of-requires
+place-of-requires c κs = search needs
+
+header-requires : tie.Need-header-requires
+header-requires c κs = search needs
+
+returns : tie.Need-returns
+returns c = cc
+
+pub leaves-header-spec : {M : Type 1} → statement M
+leaves-header-spec = tie.close (tie.spec place-of-requires header-requires returns)

@@ -1,0 +1,18 @@
+-- `leaves::of_timers::leaves_timers_check_nak` meets its contract: what its calls ensure, one put into the other.
+-- Assumes nothing.
+use borrow.Author.Needs.{needs}
+use Rattle.leaves.proofs.of_timers.leaves_timers_check_nak.Statement.{statement}
+use Rattle.leaves.proofs.of_timers.leaves_timers_check_nak.Tie as tie
+
+check-nak-requires : tie.Need-check-nak-requires
+check-nak-requires c κs = search needs
+
+timers-checked-requires : tie.Need-timers-checked-requires
+timers-checked-requires c κs = search needs
+
+returns : tie.Need-returns
+returns c = cc
+
+pub leaves-timers-check-nak-spec : {M : Type 1} → statement M
+leaves-timers-check-nak-spec =
+    tie.close (tie.spec check-nak-requires timers-checked-requires returns)

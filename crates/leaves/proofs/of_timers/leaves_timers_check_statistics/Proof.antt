@@ -1,0 +1,18 @@
+-- `leaves::of_timers::leaves_timers_check_statistics` meets its contract: what its calls ensure, one put into the other.
+-- Assumes nothing.
+use borrow.Author.Needs.{needs}
+use Rattle.leaves.proofs.of_timers.leaves_timers_check_statistics.Statement.{statement}
+use Rattle.leaves.proofs.of_timers.leaves_timers_check_statistics.Tie as tie
+
+check-statistics-requires : tie.Need-check-statistics-requires
+check-statistics-requires c κs = search needs
+
+timers-checked-requires : tie.Need-timers-checked-requires
+timers-checked-requires c κs = search needs
+
+returns : tie.Need-returns
+returns c = cc
+
+pub leaves-timers-check-statistics-spec : {M : Type 1} → statement M
+leaves-timers-check-statistics-spec =
+    tie.close (tie.spec check-statistics-requires timers-checked-requires returns)

@@ -1,0 +1,17 @@
+-- `leaves::of_timers::leaves_timers_reset_exp` meets its contract: what its calls ensure, one put into the other.
+-- Assumes nothing.
+use borrow.Author.Needs.{needs}
+use Rattle.leaves.proofs.of_timers.leaves_timers_reset_exp.Statement.{statement}
+use Rattle.leaves.proofs.of_timers.leaves_timers_reset_exp.Tie as tie
+
+reset-exp-requires : tie.Need-reset-exp-requires
+reset-exp-requires c κs = search needs
+
+timers-set-requires : tie.Need-timers-set-requires
+timers-set-requires c κs = search needs
+
+returns : tie.Need-returns
+returns c = cc
+
+pub leaves-timers-reset-exp-spec : {M : Type 1} → statement M
+leaves-timers-reset-exp-spec = tie.close (tie.spec reset-exp-requires timers-set-requires returns)
