@@ -1,0 +1,38 @@
+-- The definitions of this crate, and what they cite of the leaves, opened all at once: for figures and worked examples that computing closes.
+-- Assumes nothing.
+use Rattle.encapsulate.specs.Split as Split
+use Rattle.pacing.specs.Rate as Rate
+use Rattle.pacing.specs.Period as Period
+use Rattle.pacing.specs.Books as PacingBooks
+use Rattle.pacing.specs.Pacing as Pacing
+use Rattle.rules.specs.Numbers.{distance}
+use Rattle.rules.specs.Settings.{inRange}
+use Rattle.rules.specs.Sender as Sender
+use Rattle.rules.specs.Books as Books
+use Rattle.rules.specs.Message as Message
+use Rattle.rules.specs.Ack as Ack
+use Rattle.rules.specs.Losses as Losses
+use Rattle.rules.specs.Records as Records
+use Rattle.rules.specs.Run as Run
+use Rattle.rules.specs.Reports as Reports
+use Rattle.rules.specs.Refusals as Refusals
+use Rattle.rules.specs.Calls as Calls
+use Rattle.rules.specs.Promises as Promises
+
+unfoldable pub computes : Unit {0}
+unfolding Split.count Split.placeOf Rate.newMean Rate.estimate Period.period PacingBooks.kept Pacing.countFull Pacing.estimated
+    Pacing.movedAt Pacing.moved Pacing.added Pacing.after Pacing.sndPeriod Pacing.input distance inRange Sender.nothing Sender.fresh
+    Sender.packet Sender.from Sender.below Sender.insert Sender.wireSizes Books.every Books.all Books.ascends Books.sentKept
+    Books.unsentKept Books.heldKept Books.kept Message.packetOf Message.packetsFrom Message.gone Message.makeRoom Message.append
+    Message.pushAll Message.goneBy Message.begin Message.push Message.written Message.stored Ack.given Ack.takeRtt Ack.expect
+    Ack.acknowledge Losses.before Losses.isRange Losses.parse Losses.wordsOf Losses.kindBy Losses.kindOf Losses.reachBy Losses.reach
+    Losses.stretch Losses.itemRuns Losses.runsOf Losses.glue Losses.joined Losses.entered Losses.enterBy Losses.enterAll Losses.report
+    Records.code Records.bytesOf Records.encode Records.sentBefore Records.sendRecord Records.dropRecord Records.waitInput Records.waitAck
+    Run.base Run.wait Run.stamped Run.sent Run.orHere Run.earliest Run.first Run.loop Run.lateFrom Run.late Run.dropped Run.rule Run.send
+    Run.extra Run.flushed Run.obey Run.others Run.turnBy Run.turn Run.run Reports.isFlushed Reports.hasPacketsToSend Reports.timeOf
+    Reports.bufferedTime Reports.heldOf Reports.payloadOf Refusals.newVerdict Refusals.countIsFull Refusals.messageVerdict Refusals.badRtt
+    Refusals.fullVerdict Refusals.ackVerdict Refusals.wordsVerdict Refusals.nakVerdict Refusals.runVerdict Refusals.liesVerdict
+    Refusals.payloadVerdict Calls.itemsOf Calls.withRtt Calls.left Calls.verdictOf Calls.after Calls.pushedBy Calls.saidBy Calls.answerBy
+    Calls.answer Calls.calls Calls.answers Calls.storeBy Calls.storeAfter Calls.stores Calls.recordsOf Calls.unitsBy Promises.allRecords
+    Promises.allUnits
+computes = tt

@@ -1,0 +1,16 @@
+pub mod Numbers
+pub mod Settings
+pub mod Sender
+pub mod Books
+pub mod Message
+pub mod Ack
+pub mod Losses
+pub mod Records
+pub mod Run
+pub mod Reports
+pub mod Refusals
+pub mod Calls
+pub mod Computing
+pub mod Figures
+pub mod Promises
+pub mod Examples
