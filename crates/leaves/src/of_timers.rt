@@ -1,6 +1,8 @@
 // All timers of a connection.
 ghost use mathlib.Core.Path.{_≡_};
-ghost use Rattle.timers.specs.Timers.{new, nextTimer, checkSnd, checkFullAck, checkNak, checkStatistics, checkPeerIdleTimeout, updateSndPeriod, updateRtt, resetExp};
+ghost use Rattle.timers.specs.Timers.{new, updateSndPeriod, updateRtt, resetExp};
+ghost use Rattle.timers.specs.Wake.{nextTimer};
+ghost use Rattle.timers.specs.Checks.{checkSnd, checkFullAck, checkNak, checkStatistics, checkPeerIdleTimeout};
 ghost use Rattle.leaves.specs.TimerAnswers.{nanoseconds};
 ghost use Rattle.leaves.specs.TimersAnswers.{blanks, timersSet, timersChecked, nextMessage};
 use crate::of_timer::NanosecondsAnswer;

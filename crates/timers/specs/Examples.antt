@@ -14,7 +14,9 @@ use Rattle.timers.specs.declared.Timers.{Timers}
 use Rattle.timers.specs.declared.TimersSet.the-variants as set
 use Rattle.timers.specs.declared.TimersChecked.the-variants.{Done}
 use Rattle.timers.specs.Periods.{nakPeriod, expPeriod, calculatePeriods}
-use Rattle.timers.specs.Timers.{timers, wake, judgePeriod, updateSndPeriod, judgeRtt, updateRtt, idle, idleAfter}
+use Rattle.timers.specs.Timers.{timers, judgePeriod, updateSndPeriod, judgeRtt, updateRtt}
+use Rattle.timers.specs.Wake.{wake}
+use Rattle.timers.specs.Checks.{idle, idleAfter}
 
 -- timers that all start at 0, with EXP at 10, idle at 15 and this EXP count
 abbrev quiet : ℕ → Timers

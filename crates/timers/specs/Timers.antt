@@ -1,17 +1,14 @@
 -- All timers of a connection: document 01, "Timers": "every timer in `Timers`"; "RTT periods and the next wake-up are as `calculate_periods`
--- and `next_timer`; EXP is held at 10^15, its count at 2^32 − 1. The idle timer moves on even where EXP count 16 or less keeps it silent."
+-- and `next_timer`". When the host must wake is in Wake, what a check gives in Checks.
 --   keptAll ts            the book rules of the six timers, and an EXP count of at least 1
 --   judge, judgeNew, judgeNext, judgePeriod, judgeRtt     the refusals of the calls, each in the order of their numbers
 --   begun, new            the timers at the start; the call
---   wake, nextTimer       when the host must wake at the latest; the call
---   check, checkSnd, checkFullAck, checkNak, checkStatistics     one timer is checked, and no other moves
---   idle, checkPeerIdleTimeout     EXP, and where it has expired the idle timer too
 --   updateSndPeriod, updateRtt, resetExp     the calls that set
 -- Assumes nothing.
 pub mod Always
 pub mod Laws
-use mathlib.Core.Bool.{Bool, true, false, cond, not, _&&_, _||_}
-use Prim.Native.Nat.{ℕ, suc, _+_, min, max}
+use mathlib.Core.Bool.{Bool, false, not, _&&_, _||_}
+use Prim.Native.Nat.{ℕ}
 use lib.Dec.{ltb, leb}
 use Rattle.refusals.specs.declared.Refusal.the-variants.{BadSetting, BadState, BadTime, BadRtt}
 use Rattle.refusals.specs.declared.Verdict.{Verdict}
@@ -20,22 +17,13 @@ use Rattle.refusals.specs.Verdict.{when, answer}
 use Rattle.rtt.specs.declared.Rtt.{Rtt}
 use Rattle.rtt.specs.Rtt.{start, inRange}
 use Rattle.timer.specs.declared.Timer.{Timer}
-use Rattle.timer.specs.declared.Ticked.{Ticked}
-use Rattle.timer.specs.declared.Elapsed.{Elapsed}
-use Rattle.timer.specs.declared.Elapsed.the-variants.{Nothing, Periods}
-use Rattle.timer.specs.declared.Nanoseconds.{Nanoseconds}
-use Rattle.timer.specs.declared.Nanoseconds.the-variants as read
 use Rattle.timers.specs.declared.Periods as three
 use Rattle.timers.specs.declared.NextMessage.{NextMessage}
 use Rattle.timers.specs.declared.NextMessage.the-variants.{Unknown, At}
 use Rattle.timers.specs.declared.Timers.{Timers}
-use Rattle.timers.specs.declared.Which.{Which}
-use Rattle.timers.specs.declared.Which.the-variants.{Snd, FullAck, Nak, Statistics}
 use Rattle.timers.specs.declared.TimersSet.{TimersSet}
 use Rattle.timers.specs.declared.TimersSet.the-variants as set
-use Rattle.timers.specs.declared.TimersChecked.{TimersChecked}
-use Rattle.timers.specs.declared.TimersChecked.the-variants as checked
-use Rattle.timer.specs.Timer.{timeLimit, longest, most, kept, timer, started, ticked}
+use Rattle.timer.specs.Timer.{timeLimit, longest, kept, timer, started}
 use Rattle.timers.specs.Periods.{calculatePeriods}
 
 abbrev pub keptAll : Timers → Bool
@@ -79,82 +67,6 @@ begun now statistics idle =
 
 unfoldable pub new : ℕ → ℕ → ℕ → TimersSet
 new now statistics idle = answer set.Refused (judgeNew now statistics idle) (set.Done (begun now statistics idle))
-
--- the next instant of a timer, where it has a say
-abbrev pub sooner : Bool → Timer → ℕ → ℕ
-sooner true t instant = min (t .last + t .period) instant
-sooner false t instant = instant
-
-abbrev pub messageOr : NextMessage → ℕ → ℕ
-messageOr Unknown instant = instant
-messageOr (At time) instant = min time instant
-
-unfoldable pub wake : Timers → ℕ → Bool → NextMessage → ℕ → ℕ
-wake ts now packets message unacked =
-    max now
-    (sooner packets (ts .snd)
-    (sooner (ltb 0 unacked) (ts .«full_ack»)
-    (messageOr message
-    (sooner true (ts .exp) (ts .nak .last + ts .nak .period)))))
-
-unfoldable pub nextTimer : Timers → ℕ → Bool → NextMessage → ℕ → Nanoseconds
-nextTimer ts now packets message unacked =
-    answer read.Refused (judgeNext ts now message) (read.Are (wake ts now packets message unacked))
-
--- the timer that a check speaks of, and the timers with another one in its place
-abbrev pub timerOf : Which → Timers → Timer
-timerOf Snd ts = ts .snd
-timerOf FullAck ts = ts .«full_ack»
-timerOf Nak ts = ts .nak
-timerOf Statistics ts = ts .statistics
-
-abbrev pub withTimer : Which → Timer → Timers → Timers
-withTimer Snd t ts = timers t (ts .«full_ack») (ts .nak) (ts .exp) (ts .«exp_count») (ts .«peer_idle») (ts .statistics)
-withTimer FullAck t ts = timers (ts .snd) t (ts .nak) (ts .exp) (ts .«exp_count») (ts .«peer_idle») (ts .statistics)
-withTimer Nak t ts = timers (ts .snd) (ts .«full_ack») t (ts .exp) (ts .«exp_count») (ts .«peer_idle») (ts .statistics)
-withTimer Statistics t ts = timers (ts .snd) (ts .«full_ack») (ts .nak) (ts .exp) (ts .«exp_count») (ts .«peer_idle») t
-
-unfoldable pub check : Which → Timers → ℕ → TimersChecked
-check which ts now =
-    let x = ticked (timerOf which ts) now in
-    answer checked.Refused (judge ts now) (checked.Done (x .elapsed) (withTimer which (x .timer) ts))
-
-abbrev pub checkSnd : Timers → ℕ → TimersChecked
-checkSnd ts now = check Snd ts now
-
-abbrev pub checkFullAck : Timers → ℕ → TimersChecked
-checkFullAck ts now = check FullAck ts now
-
-abbrev pub checkNak : Timers → ℕ → TimersChecked
-checkNak ts now = check Nak ts now
-
-abbrev pub checkStatistics : Timers → ℕ → TimersChecked
-checkStatistics ts now = check Statistics ts now
-
--- EXP has expired and become exp: the idle timer is checked and moves on; it is heard where EXP's count is over 16, else the count goes up
-abbrev pub heard : Elapsed → Bool → Bool
-heard Nothing often = false
-heard (Periods n) often = often
-
-unfoldable pub idleAfter : Timers → Timer → ℕ → TimersChecked
-idleAfter ts exp now =
-    let t = ticked (ts .«peer_idle») now in
-    cond (heard (t .elapsed) (ltb 16 (ts .«exp_count»)))
-    (checked.Done (t .elapsed) (timers (ts .snd) (ts .«full_ack») (ts .nak) exp (ts .«exp_count») (t .timer) (ts .statistics)))
-    (checked.Done Nothing (timers (ts .snd) (ts .«full_ack») (ts .nak) exp (min most (ts .«exp_count» + 1)) (t .timer) (ts .statistics)))
-
--- nothing at all happens unless EXP has expired
-abbrev pub expired : Elapsed → TimersChecked → TimersChecked → TimersChecked
-expired Nothing quiet after = quiet
-expired (Periods n) quiet after = after
-
-unfoldable pub idle : Timers → ℕ → TimersChecked
-idle ts now =
-    let t = ticked (ts .exp) now in
-    expired (t .elapsed) (checked.Done Nothing ts) (idleAfter ts (t .timer) now)
-
-unfoldable pub checkPeerIdleTimeout : Timers → ℕ → TimersChecked
-checkPeerIdleTimeout ts now = answer checked.Refused (judge ts now) (idle ts now)
 
 unfoldable pub updateSndPeriod : Timers → ℕ → TimersSet
 updateSndPeriod ts period =

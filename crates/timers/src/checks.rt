@@ -2,7 +2,7 @@
 ghost use mathlib.Core.Path.{_≡_};
 ghost use Prim.Native.Nat.{_+_, min};
 ghost use Rattle.timer.specs.Timer.{most};
-ghost use Rattle.timers.specs.Timers.{timerOf, withTimer, check, checkSnd, checkFullAck, checkNak, checkStatistics, heard, idleAfter, idle, checkPeerIdleTimeout};
+ghost use Rattle.timers.specs.Checks.{timerOf, withTimer, check, checkSnd, checkFullAck, checkNak, checkStatistics, heard, idleAfter, idle, checkPeerIdleTimeout};
 use crate::Timers;
 use crate::TimersChecked;
 use crate::Which;

@@ -1,7 +1,8 @@
 // When the host must wake: the Rust's `next_timer`.
 ghost use mathlib.Core.Path.{_≡_};
 ghost use Rattle.timer.specs.Timer.Laws.{Kept};
-ghost use Rattle.timers.specs.Timers.{judgeNext, sooner, messageOr, tooLate, wake, nextTimer};
+ghost use Rattle.timers.specs.Timers.{judgeNext, tooLate};
+ghost use Rattle.timers.specs.Wake.{sooner, messageOr, wake, nextTimer};
 ghost use Rattle.timers.specs.Timers.Laws.{KeptAll};
 use crate::NextMessage;
 use crate::Timers;

@@ -29,7 +29,8 @@ use Rattle.timers.specs.declared.TimersSet.the-variants as set
 use Rattle.timers.specs.declared.TimersChecked.{TimersChecked}
 use Rattle.timers.specs.declared.TimersChecked.the-variants as checked
 use Rattle.timers.specs.Periods.{expPeriod}
-use Rattle.timers.specs.Timers.{keptAll, judge, judgeNew, judgePeriod, judgeRtt, new, timerOf, withTimer, check, heard, expired, idleAfter, idle, checkPeerIdleTimeout, updateSndPeriod, updateRtt, resetExp}
+use Rattle.timers.specs.Timers.{keptAll, judge, judgeNew, judgePeriod, judgeRtt, new, updateSndPeriod, updateRtt, resetExp}
+use Rattle.timers.specs.Checks.{timerOf, withTimer, check, heard, expired, idleAfter, idle, checkPeerIdleTimeout}
 use Rattle.timers.specs.Timers.Laws.{KeptAll, accepted-kept, accepted-ranged}
 
 abbrev pub Set : TimersSet → Type 0

@@ -1,7 +1,7 @@
 -- `timers::Timers::check` meets its contract: refused as `judge` says, else what `tick` ensures of the one timer.
 -- Assumes nothing.
 use Rattle.timers.specs.declared.TimersChecked.the-variants.{Refused}
-use Rattle.timers.specs.Timers.{check}
+use Rattle.timers.specs.Checks.{check}
 use Rattle.refusals.specs.Verdict.Laws.{answer-refused, answer-accepted}
 use borrow.Author.Needs.{needs}
 use Rattle.timers.proofs.Timers.check.Statement.{statement}

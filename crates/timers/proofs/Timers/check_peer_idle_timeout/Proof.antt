@@ -1,7 +1,7 @@
 -- `timers::Timers::check_peer_idle_timeout` meets its contract: refused as `judge` says, else what `idle` ensures.
 -- Assumes nothing.
 use Rattle.timers.specs.declared.TimersChecked.the-variants.{Refused}
-use Rattle.timers.specs.Timers.{checkPeerIdleTimeout}
+use Rattle.timers.specs.Checks.{checkPeerIdleTimeout}
 use Rattle.refusals.specs.Verdict.Laws.{answer-refused, answer-accepted}
 use borrow.Author.Needs.{needs}
 use Rattle.timers.proofs.Timers.check_peer_idle_timeout.Statement.{statement}

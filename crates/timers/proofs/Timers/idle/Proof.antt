@@ -1,7 +1,7 @@
 -- `timers::Timers::idle` meets its contract, by what EXP gives.
 -- Assumes nothing.
 use mathlib.Core.Path.{_∙_, sym, ap}
-use Rattle.timers.specs.Timers.{idle}
+use Rattle.timers.specs.Checks.{idle}
 use borrow.Author.Needs.{needs}
 use Rattle.timers.proofs.Timers.idle.Statement.{statement}
 use Rattle.timers.proofs.Timers.idle.Tie as tie

@@ -1,6 +1,6 @@
 -- `timers::Timers::idle_after` meets its contract: the branch goes by what `heard` ensures.
 -- Assumes nothing.
-use Rattle.timers.specs.Timers.{idleAfter}
+use Rattle.timers.specs.Checks.{idleAfter}
 use borrow.Author.Needs.{needs}
 use Rattle.timers.proofs.Timers.idle_after.Statement.{statement}
 use Rattle.timers.proofs.Timers.idle_after.Tie as tie

@@ -3,7 +3,8 @@
 -- Assumes nothing.
 use mathlib.Core.Path.{_∙_, sym}
 use Rattle.timer.specs.declared.Nanoseconds.the-variants.{Refused}
-use Rattle.timers.specs.Timers.{judgeNext, nextTimer}
+use Rattle.timers.specs.Timers.{judgeNext}
+use Rattle.timers.specs.Wake.{nextTimer}
 use Rattle.timers.specs.Timers.Laws.{accepted-kept}
 use Rattle.refusals.specs.Verdict.Laws.{answer-refused, answer-accepted}
 use borrow.Author.Needs.{needs}

@@ -1,6 +1,6 @@
 -- `timers::Timers::wake` meets its contract: each step is the one of its definition; the sums fit, since the timers are kept.
 -- Assumes nothing.
-use Rattle.timers.specs.Timers.{wake}
+use Rattle.timers.specs.Wake.{wake}
 use borrow.Author.Needs.{needs}
 use Rattle.timers.proofs.Timers.wake.Statement.{statement}
 use Rattle.timers.proofs.Timers.wake.Tie as tie

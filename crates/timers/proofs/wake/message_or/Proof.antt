@@ -2,7 +2,7 @@
 -- Assumes nothing.
 use mathlib.Core.Path.{_∙_, sym, ap}
 use Rattle.timers.specs.declared.NextMessage.{NextMessage}
-use Rattle.timers.specs.Timers.{messageOr}
+use Rattle.timers.specs.Wake.{messageOr}
 use borrow.Author.Needs.{needs}
 use Rattle.timers.proofs.wake.message_or.Statement.{statement}
 use Rattle.timers.proofs.wake.message_or.Tie as tie
