@@ -1,0 +1,4 @@
+pub mod Entering
+pub mod Gap
+pub mod Kept
+pub mod Shifted
