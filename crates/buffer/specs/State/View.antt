@@ -1,0 +1,71 @@
+-- The buffered packets as a list, under each operation on the ring.
+--   packets-length, packets-at     how many there are, and packet i
+--   sizes-none, sizes-more         the wire sizes of one packet more
+--   packets-set, packets-push, packets-remove   packet i written anew; one more at the back; k fewer at the front
+-- Assumes nothing.
+use mathlib.Core.Path.{_≡_, refl, sym, ap, _∙_}
+use mathlib.Core.List.{List, [], _∷_, _++_, map}
+use Prim.Native.Nat.{ℕ, zero, suc, _+_, _≤_, _<_}
+use native.Mathlib.Numerals.{add-one}
+use native.Mathlib.Omega.{arith}
+use lib.Seq.{take-suc}
+use lib.ListN.{length, getD, set, take, drop, length-map, List·getD-map}
+use Rattle.ring.specs.declared.Entry.{Entry}
+use Rattle.ring.specs.declared.Ring.{Ring}
+use Rattle.ring.specs.Entry.{entry, readE, writeE}
+use Rattle.ring.specs.Ring.{slotOf, pushed, removed}
+use Rattle.ring.specs.Ring as ring
+use Rattle.ring.specs.Ring.Laws as laws
+use Rattle.ring.specs.Ring.Laws.{Placed}
+use Rattle.rules.specs.Settings.{Settings}
+use Rattle.rules.specs.Sender.{Packet, nothing, wireSizes}
+use Rattle.rules.proofs.Packets.{sizes-append}
+use Rattle.buffer.specs.State.{packetOf, packetsOf}
+
+map-set : (es : List Entry) (i : ℕ) (e : Entry) → map packetOf (set es i e) ≡ set (map packetOf es) i (packetOf e)
+map-set [] i e = refl
+map-set (x ∷ xs) zero e = refl
+map-set (x ∷ xs) (suc i) e = ap (λ (l : List Packet). packetOf x ∷ l) (map-set xs i e)
+
+map-append : (es ds : List Entry) → map packetOf (es ++ ds) ≡ map packetOf es ++ map packetOf ds
+map-append [] ds = refl
+map-append (x ∷ xs) ds = ap (λ (l : List Packet). packetOf x ∷ l) (map-append xs ds)
+
+map-drop : (k : ℕ) (es : List Entry) → map packetOf (drop k es) ≡ drop k (map packetOf es)
+map-drop zero es = refl
+map-drop (suc k) [] = refl
+map-drop (suc k) (x ∷ xs) = map-drop k xs
+
+module _ (r : Ring) (xs : List ℕ) where
+  pub packets-length : length (packetsOf r xs) ≡ r .len
+  unfolding packetsOf
+  packets-length = length-map (ring.packets r xs) packetOf ∙ laws.packets-length r xs
+
+  pub packets-at : (i : ℕ) → i < r .len → getD (packetsOf r xs) i nothing ≡ packetOf (readE xs (slotOf r i))
+  unfolding packetsOf packetOf nothing
+  packets-at i h = List·getD-map packetOf (ring.packets r xs) i (entry 0 0 3 0 0 0) ∙ ap packetOf (laws.packets-at r xs i (entry 0 0 3 0 0 0) h)
+
+  pub sizes-none : (c : Settings) → 0 ≡ wireSizes c (take 0 (packetsOf r xs))
+  unfolding wireSizes
+  sizes-none c = refl
+
+  pub sizes-more : (c : Settings) (i : ℕ) → i < r .len
+      → wireSizes c (take (i + 1) (packetsOf r xs)) ≡ wireSizes c (take i (packetsOf r xs)) + (readE xs (slotOf r i) .len + c .overhead)
+  unfolding wireSizes packetOf
+  sizes-more c i h =
+      let long : i < length (packetsOf r xs) = rw packets-length h in
+      rw (add-one i, take-suc (packetsOf r xs) i nothing long, packets-at i h)
+      (sizes-append c (take i (packetsOf r xs)) (packetOf (readE xs (slotOf r i)) ∷ []) ∙ omega arith)
+
+  module _ (p : Placed r xs) where
+    pub packets-set : (i : ℕ) (e : Entry) → i < r .len → packetsOf r (writeE xs (slotOf r i) e) ≡ set (packetsOf r xs) i (packetOf e)
+    unfolding packetsOf
+    packets-set i e h = ap (map packetOf) (laws.packets-set r xs p i e h) ∙ map-set (ring.packets r xs) i e
+
+    pub packets-push : (e : Entry) → r .len < r .cap → packetsOf (pushed r) (writeE xs (slotOf r (r .len)) e) ≡ packetsOf r xs ++ (packetOf e ∷ [])
+    unfolding packetsOf
+    packets-push e h = ap (map packetOf) (laws.packets-push r xs p e h) ∙ map-append (ring.packets r xs) (e ∷ [])
+
+    pub packets-remove : (k : ℕ) → k ≤ r .len → packetsOf (removed k r) xs ≡ drop k (packetsOf r xs)
+    unfolding packetsOf
+    packets-remove k h = ap (map packetOf) (laws.packets-remove r xs p k h) ∙ map-drop k (ring.packets r xs)
