@@ -2,7 +2,8 @@
 --   Ranged c          the settings are in their ranges
 --   Facts c st        the kept numbers, and the areas
 --   Entered c e       an entry
---   stands-facts, stands-entry, stands-sent, stands-unsent   all this holds of books that stand for a sender that keeps the book rules
+--   Readable c r ring a ring whose entries are such
+--   stands-facts, stands-readable, stands-entry, stands-sent, stands-unsent   all this holds of books that stand for a sender that keeps the book rules
 -- Assumes nothing.
 use mathlib.Core.Path.{_≡_, refl, sym, ap, _∙_}
 use mathlib.Core.Bool.{Bool, true, _&&_, and-eq-true-iff}
@@ -16,6 +17,7 @@ use lib.Seq.{getD-take, getD-drop}
 use borrow.Author.Tests.{ltb-true, leb-true}
 use Rattle.rtt.specs.Rtt.Laws as RttOf
 use Rattle.ring.specs.declared.Entry.{Entry}
+use Rattle.ring.specs.declared.Ring.{Ring}
 use Rattle.ring.specs.Entry.{readE}
 use Rattle.ring.specs.Ring.{slotOf}
 use Rattle.ring.specs.Ring.Laws.{Placed}
@@ -81,6 +83,12 @@ pub record Entered (c : Settings) (e : Entry) : Type 0 where
   pub most : e .count ≤ 65_535
   pub resend : e .resend < 2 ^ 49
 
+-- a ring whose entries may be read and weighed
+pub record Readable (c : Settings) (r : Ring) (ring : List ℕ) : Type 0 where
+  pub settings : Ranged c
+  pub placed : Placed r ring
+  pub entered : (i : ℕ) → i < r .len → Entered c (readE ring (slotOf r i))
+
 module _ {c : Settings} {st : State} {s : Sender} (S : Stands c st s) (K : Kept c s) where
   pub stands-facts : Facts c st
   stands-facts =
@@ -139,3 +147,6 @@ module _ {c : Settings} {st : State} {s : Sender} (S : Stands c st s) (K : Kept 
       go (no l) =
           let p = stands-unsent i (omega arith) h in
           record { time = p .time; message = p .message; len = p .len; most = omega (arith, p .never); resend = omega (arith, p .unset) }
+
+  pub stands-readable : Readable c (st .books .ring) (st .ring)
+  stands-readable = let f = stands-facts in record { settings = f .settings; placed = f .placed; entered = stands-entry }

@@ -34,7 +34,7 @@ empty-is : (xs : List ℕ) → eqb (length xs) 0 ≡ rules.isEmpty xs
 empty-is [] = refl
 empty-is (x ∷ xs) = ne-eqb (suc (length xs)) 0 (λ e. omega arith)
 
-ltb-add : (f a b : ℕ) → ltb (f + a) (f + b) ≡ ltb a b
+pub ltb-add : (f a b : ℕ) → ltb (f + a) (f + b) ≡ ltb a b
 ltb-add f a b = go (decLt a b)
   where
     go : Dec (a < b) → ltb (f + a) (f + b) ≡ ltb a b
