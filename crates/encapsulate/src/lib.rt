@@ -124,7 +124,7 @@ fn judge(len: usize, size: usize) -> Verdict
     refusals::when(size < 1, Refusal::BadSetting, large)
 }
 
-fn count(len: usize, size: usize) -> usize
+pub fn count(len: usize, size: usize) -> usize
     requires { ⌜ Sized size len ⌝ }
     ensures { λ r. ⌜ Counted size len r ⌝ }
 {
@@ -165,7 +165,7 @@ fn smaller(a: usize, b: usize) -> usize
     if a <= b { a } else { b }
 }
 
-fn cut(len: usize, size: usize, n: usize, k: usize) -> Piece
+pub fn cut(len: usize, size: usize, n: usize, k: usize) -> Piece
     requires { ⌜ Cut size len n k ⌝ }
     ensures { λ r. ⌜ r ≡ pieceOf size len k ⌝ }
 {

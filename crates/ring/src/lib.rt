@@ -78,7 +78,7 @@ impl Ring {
     }
 
     // The slot of packet `i` from the front.
-    fn slot_of(self, i: usize) -> usize
+    pub fn slot_of(self, i: usize) -> usize
         requires { ⌜ (self .slot < self .cap) × (i ≤ self .cap) × (self .cap ≤ 8192) ⌝ }
         ensures { λ r. ⌜ (r ≡ slotOf self i) × (r < self .cap) ⌝ }
     {
