@@ -10,6 +10,7 @@
 --   put b ..         other places, front, sent count, loss count and byte count
 -- Assumes nothing.
 pub mod Facts
+pub mod Fresh
 pub mod Reports
 pub mod Stands
 pub mod View

@@ -8,7 +8,7 @@ ghost use Rattle.ring.specs.Ring.Laws.{Placed};
 ghost use Rattle.rules.specs.Settings.{capacity, lateWindow};
 ghost use Rattle.rules.specs.Sender.{wireSizes};
 ghost use Rattle.rules.specs.Reports.{timeOf};
-ghost use Rattle.buffer.specs.State.{settingsOf, packetsOf, fresh};
+ghost use Rattle.buffer.specs.State.{settingsOf, packetsOf, put, fresh};
 ghost use Rattle.buffer.specs.State.Reports.{isFlushed, hasPacketsToSend};
 ghost use Rattle.buffer.specs.Removal.Laws.{Removable, Removed, Weighable};
 use numbers::MsgNumber;
@@ -98,6 +98,26 @@ impl SendBuffer {
         }
     }
 
+    // The same books with the packets elsewhere, another front, and other counts.
+    pub fn put(self, ring: Ring, front: SeqNumber, sent: u32, lost: usize, bytes: u64) -> SendBuffer
+        ensures { λ r. ⌜ r ≡ put self ring (front .0) sent lost bytes ⌝ }
+    {
+        let rtt = self.rtt;
+        let message = self.message;
+        let flushed = self.flushed;
+        SendBuffer {
+            ring,
+            front,
+            sent,
+            lost,
+            bytes,
+            rtt,
+            message,
+            expected: self.expected,
+            flushed,
+        }
+    }
+
     // How many packets are buffered.
     pub fn len(self) -> usize
         ensures { λ r. ⌜ r ≡ self .ring .len ⌝ }
@@ -183,21 +203,10 @@ impl SendBuffer {
     {
         let ring = self.ring;
         let front = self.front;
-        let rtt = self.rtt;
-        let message = self.message;
-        let flushed = self.flushed;
         let to = front.plus(k as u32);
         let gone = losses::remove_below(lost, self.lost, front, to);
-        SendBuffer {
-            ring: ring.remove_front(k),
-            front: to,
-            sent: less(self.sent, k as u32),
-            lost: self.lost - gone,
-            bytes,
-            rtt,
-            message,
-            expected: self.expected,
-            flushed,
-        }
+        let rest = ring.remove_front(k);
+        let sent = less(self.sent, k as u32);
+        self.put(rest, to, sent, self.lost - gone, bytes)
     }
 }

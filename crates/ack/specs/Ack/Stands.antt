@@ -95,6 +95,7 @@ module _ {c : Settings} {st : State} {s : Sender} (S : Stands c st s) where
         cap = S .cap;
         room = S .room;
         packets = S .packets;
+        places = S .places;
         front = S .front;
         next = S .next;
         count = S .count;
@@ -130,6 +131,7 @@ module _ {c : Settings} {st : State} {s : Sender} (S : Stands c st s) where
           cap = G .cap;
           room = G .room;
           packets = G .packets;
+          places = G .places;
           front = G .front;
           next = sym stays ∙ G .next;
           count = G .count;

@@ -31,7 +31,7 @@ use Rattle.rules.specs.Sender.{Sender, from, below, remove}
 use Rattle.rules.specs.Books.Laws.{Kept}
 use Rattle.buffer.specs.declared.SendBuffer.{SendBuffer}
 use Rattle.buffer.specs.State.{State, state, view, lostOf, put}
-use Rattle.buffer.specs.State.View.{packets-length, packets-remove}
+use Rattle.buffer.specs.State.View.{packets-length, packets-remove, places-remove}
 use Rattle.buffer.specs.State.Stands.{Stands}
 use Rattle.buffer.specs.Removal.{removed, frontAfter, keyAfter, staying, going}
 
@@ -117,6 +117,7 @@ module _ {c : Settings} {st : State} {s : Sender} (S : Stands c st s) where
           cap = S .cap;
           room = rw (length-over (staying k st) (st .lost) staying-few) (S .room);
           packets = packets-remove (st .books .ring) (st .ring) p k h ∙ ap (drop k) (S .packets);
+          places = places-remove (st .books .ring) (st .ring) p (S .places) k h;
           front = to;
           next = omega (arith, S .next);
           count = staying-count ∙ stands-length stay;

@@ -3,7 +3,7 @@
 --   Facts c st        the kept numbers, and the areas
 --   Entered c e       an entry
 --   Readable c r ring a ring whose entries are such
---   stands-facts, stands-readable, stands-entry, stands-sent, stands-unsent   all this holds of books that stand for a sender that keeps the book rules
+--   stands-facts, stands-readable, stands-entry, stands-sent, stands-unsent, stands-covers   all this holds of books that stand for a sender that keeps the book rules
 -- Assumes nothing.
 use mathlib.Core.Path.{_≡_, refl, sym, ap, _∙_}
 use mathlib.Core.Bool.{Bool, true, _&&_, and-eq-true-iff}
@@ -25,10 +25,10 @@ use Rattle.losses.specs.LossList.Stands.{stands-length}
 use Rattle.losses.specs.LossList.Stands.Books.{ascends-few}
 use Rattle.rules.specs.Numbers.Laws.{wire-below}
 use Rattle.rules.specs.Settings.{Settings, inRange, capacity}
-use Rattle.rules.specs.Sender.{Packet, Sender, sentOf, nothing}
+use Rattle.rules.specs.Sender.{Packet, Sender, sentOf, nothing, wireSizes}
 use Rattle.rules.specs.Books.Laws.{Kept, Sent, Unsent, All}
-use Rattle.rules.proofs.Packets.{all-at}
-use Rattle.buffer.specs.State.{State, packetOf, view, lostOf}
+use Rattle.rules.proofs.Packets.{all-at, sizes-drop}
+use Rattle.buffer.specs.State.{State, packetOf, packetsOf, view, lostOf}
 use Rattle.buffer.specs.State.View.{packets-length, packets-at}
 use Rattle.buffer.specs.State.Stands.{Stands, Ready}
 
@@ -150,3 +150,7 @@ module _ {c : Settings} {st : State} {s : Sender} (S : Stands c st s) (K : Kept 
 
   pub stands-readable : Readable c (st .books .ring) (st .ring)
   stands-readable = let f = stands-facts in record { settings = f .settings; placed = f .placed; entered = stands-entry }
+
+  -- "byte count .. not below the sum of buffered wire sizes"
+  pub stands-covers : (k : ℕ) → wireSizes c (take k (packetsOf (st .books .ring) (st .ring))) ≤ st .books .bytes
+  stands-covers k = rw (S .packets, S .bytes) (omega (arith, K .covers, sizes-drop c k (s .packets)))

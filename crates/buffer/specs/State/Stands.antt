@@ -18,6 +18,7 @@ use Rattle.rules.specs.Books.Laws.{Kept}
 use Rattle.buffer.specs.declared.Flushed.{Flushed}
 use Rattle.buffer.specs.declared.Flushed.the-variants as flushed
 use Rattle.buffer.specs.State.{State, view, lostOf}
+use Rattle.buffer.specs.State.View.{Places}
 
 abbrev pub HeldAs : Flushed → Option Held → Type 0
 HeldAs flushed.Nothing none = Unit {0}
@@ -36,6 +37,7 @@ pub record Stands (c : Settings) (st : State) (s : Sender) : Type 0 where
   pub cap : st .books .ring .cap ≡ capacity c
   pub room : capacity c ≤ length (st .lost)
   pub packets : view st ≡ s .packets
+  pub places : Places (st .books .ring) (st .ring)
   pub front : st .books .front .0 ≡ wire (s .front)
   pub next : s .next ≡ s .front + st .books .sent
   pub count : st .books .lost ≡ length (s .lost)

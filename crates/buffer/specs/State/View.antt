@@ -2,17 +2,22 @@
 --   packets-length, packets-at     how many there are, and packet i
 --   sizes-none, sizes-more         the wire sizes of one packet more
 --   packets-set, packets-push, packets-remove   packet i written anew; one more at the back; k fewer at the front
+--   Places r xs                    each entry's place is document 01's two bits
+--   places-set, places-push, places-remove      so it is under the same three
 -- Assumes nothing.
 use mathlib.Core.Path.{_≡_, refl, sym, ap, _∙_}
 use mathlib.Core.List.{List, [], _∷_, _++_, map}
 use Prim.Native.Nat.{ℕ, zero, suc, _+_, _≤_, _<_}
 use native.Mathlib.Numerals.{add-one}
+use native.Mathlib.Decide.{ℕ-discrete}
 use native.Mathlib.Omega.{arith}
+use lib.Arith.{lt-of-le-ne}
 use lib.Seq.{take-suc}
 use lib.ListN.{length, getD, set, take, drop, length-map, List·getD-map}
 use Rattle.ring.specs.declared.Entry.{Entry}
 use Rattle.ring.specs.declared.Ring.{Ring}
 use Rattle.ring.specs.Entry.{entry, readE, writeE}
+use Rattle.ring.specs.Entry.Laws.{readE-same, readE-other}
 use Rattle.ring.specs.Ring.{slotOf, pushed, removed}
 use Rattle.ring.specs.Ring as ring
 use Rattle.ring.specs.Ring.Laws as laws
@@ -69,3 +74,29 @@ module _ (r : Ring) (xs : List ℕ) where
     pub packets-remove : (k : ℕ) → k ≤ r .len → packetsOf (removed k r) xs ≡ drop k (packetsOf r xs)
     unfolding packetsOf
     packets-remove k h = ap (map packetOf) (laws.packets-remove r xs p k h) ∙ map-drop k (ring.packets r xs)
+
+abbrev pub Places : Ring → List ℕ → Type 0
+Places r xs = (i : ℕ) → i < r .len → readE xs (slotOf r i) .place ≤ 3
+
+module _ (r : Ring) (xs : List ℕ) (p : Placed r xs) (P : Places r xs) where
+  pub places-set : (i : ℕ) (e : Entry) → i < r .len → e .place ≤ 3 → Places r (writeE xs (slotOf r i) e)
+  places-set i e h few j q = go (ℕ-discrete j i)
+    where
+      go : Dec (j ≡ i) → readE (writeE xs (slotOf r i) e) (slotOf r j) .place ≤ 3
+      go (yes s) = rw (s, readE-same xs (slotOf r i) e (laws.slot-within r xs p i (omega (arith, p .len)))) few
+      go (no n) =
+          rw (readE-other xs (slotOf r i) (slotOf r j) e (λ s. n (laws.slot-apart r (p .slot) j i (omega (arith, p .len)) (omega (arith, p .len)) s)))
+          (P j q)
+
+  pub places-push : (e : Entry) → r .len < r .cap → e .place ≤ 3 → Places (pushed r) (writeE xs (slotOf r (r .len)) e)
+  unfolding slotOf
+  places-push e h few j q = go (ℕ-discrete j (r .len))
+    where
+      go : Dec (j ≡ r .len) → readE (writeE xs (slotOf r (r .len)) e) (slotOf r j) .place ≤ 3
+      go (yes s) = rw (s, readE-same xs (slotOf r (r .len)) e (laws.slot-within r xs p (r .len) (omega arith))) few
+      go (no n) =
+          let old : j < r .len = lt-of-le-ne (omega arith) n in
+          rw (readE-other xs (slotOf r (r .len)) (slotOf r j) e (λ s. n (laws.slot-apart r (p .slot) j (r .len) (omega arith) h s))) (P j old)
+
+  pub places-remove : (k : ℕ) → k ≤ r .len → Places (removed k r) xs
+  places-remove k h j q = rw (laws.slot-removed r (p .slot) k j (omega (arith, p .len))) (P (k + j) (omega arith))

@@ -12,7 +12,7 @@ use Prim.Native.Nat.{ℕ, zero, suc, _+_, _-_, _*_, _%_, _^_, _≤_, _<_}
 use native.Mathlib.Numerals.{add-one}
 use native.Mathlib.Nat.{mod-eq-of-lt, mod-eq-sub-mod, mul-add-mod-self-right}
 use native.Mathlib.Omega.{arith}
-use lib.Dec.{leb, ltb}
+use lib.Dec.{lit≤, leb, ltb}
 use lib.ListN.{length, take, drop, length-append}
 use lib.Seq.{paste}
 use borrow.Author.Tests.{leb-true, leb-false, ltb-true, ltb-false}
@@ -33,7 +33,7 @@ use Rattle.rules.specs.Message as rules
 use Rattle.rules.specs.Calls as said
 use Rattle.rules.proofs.Packets.{sizes-append}
 use Rattle.buffer.specs.State.{State, placeFrom, packetOf, view}
-use Rattle.buffer.specs.State.View.{packets-push}
+use Rattle.buffer.specs.State.View.{packets-push, places-push}
 use Rattle.buffer.specs.State.Stands.{Stands}
 use Rattle.buffer.specs.State.Reports.{packets-is}
 use Rattle.buffer.specs.Removal.{removed}
@@ -47,10 +47,20 @@ place-back Middle = refl
 place-back Last = refl
 place-back Only = refl
 
+place-few : (p : Place) → placeBits p ≤ 3
+place-few First = lit≤ tt
+place-few Middle = lit≤ tt
+place-few Last = lit≤ tt
+place-few Only = lit≤ tt
+
 -- the entry of a packet stands for the packet
 pub entry-is : (c : Settings) (time m len k : ℕ) → packetOf (entryOf c time m len k) ≡ rules.packetOf c time m len k
 unfolding packetOf entryOf rules.packetOf
 entry-is c time m len k = rw (place-back (placeOf (count (c .size) len) k))
+
+entry-place : (c : Settings) (time m len k : ℕ) → entryOf c time m len k .place ≤ 3
+unfolding entryOf
+entry-place c time m len k = place-few (placeOf (count (c .size) len) k)
 
 module _ {c : Settings} {st : State} {s : Sender} (S : Stands c st s) where
   full-is : leb (st .books .ring .cap) (st .books .ring .len) ≡ leb (capacity c) (length (s .packets))
@@ -80,15 +90,16 @@ module _ {c : Settings} {st : State} {s : Sender} (S : Stands c st s) where
       go true e = rw e (omega (arith, S .placed .len, S .placed .slot))
       go false e = rw e (leb-false _ _ e)
 
-  pub stands-append : (e : Entry) → st .books .ring .len < st .books .ring .cap → Stands c (append c e st) (rules.append c (packetOf e) s)
+  pub stands-append : (e : Entry) → st .books .ring .len < st .books .ring .cap → e .place ≤ 3 → Stands c (append c e st) (rules.append c (packetOf e) s)
   unfolding append rules.append packetOf
-  stands-append e h =
+  stands-append e h few =
       let p = S .placed in
       record {
         placed = record { cap = p .cap; slot = p .slot; len = omega arith; area = rw (length-writeE) (p .area) };
         cap = S .cap;
         room = S .room;
         packets = packets-push (st .books .ring) (st .ring) p e h ∙ ap (λ (l : List Packet). l ++ (packetOf e ∷ [])) (S .packets);
+        places = places-push (st .books .ring) (st .ring) p (S .places) e h few;
         front = S .front;
         next = S .next;
         count = S .count;
@@ -133,7 +144,7 @@ module _ (c : Settings) (time m : ℕ) (payload : List ℕ) where
   unfolding pushOne appended roomed
   stands-one w s S =
       rw (← entry-is c time m (length payload) (w .work .made))
-      (stands-append (stands-room S) (entryOf c time m (length payload) (w .work .made)) (room-made S))
+      (stands-append (stands-room S) (entryOf c time m (length payload) (w .work .made)) (room-made S) (entry-place c time m (length payload) (w .work .made)))
 
   pushed-room : (s : Sender) → rules.makeRoom c s .pushed ≡ s .pushed
   unfolding rules.makeRoom
@@ -190,6 +201,7 @@ module _ {c : Settings} {st : State} {s : Sender} (S : Stands c st s) where
     cap = S .cap;
     room = S .room;
     packets = S .packets;
+    places = S .places;
     front = S .front;
     next = S .next;
     count = S .count;

@@ -131,6 +131,7 @@ module _ {c : Settings} {st : State} {s : Sender} (S : Stands c st s) (K : Kept 
     cap = S .cap;
     room = rw (length-over (lostAfter (st .books) ws (st .lost)) (st .lost) (lost-fits .room)) (S .room);
     packets = S .packets;
+    places = S .places;
     front = S .front;
     next = S .next;
     count = stands-length lost-stands;

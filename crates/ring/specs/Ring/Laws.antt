@@ -1,7 +1,8 @@
 -- What the buffer uses of the ring: its packets as a list, under each operation.
 --   Placed r xs                       the ring lies within the area
 --   placed-facts, facts-placed        the test decides it, both ways
---   slot-below                        a slot is one of the ring's
+--   slot-below, slot-within           a slot is one of the ring's, and lies within the area
+--   slot-apart, slot-removed          two packets lie in two slots; the slots after k packets went
 --   packets-length, packets-at        how many packets there are, and packet i
 --   packets-set                       packet i written anew
 --   packets-push, packets-remove      one more at the back; k fewer at the front
@@ -51,7 +52,7 @@ module _ (r : Ring) (h : r .slot < r .cap) where
   slot-below i q = wrap-by (λ s. s < r .cap) (r .cap) (r .slot + i) (λ p. p) (λ p. omega arith)
 
   -- two packets lie in two slots
-  slot-apart : (i j : ℕ) → i < r .cap → j < r .cap → slotOf r i ≡ slotOf r j → i ≡ j
+  pub slot-apart : (i j : ℕ) → i < r .cap → j < r .cap → slotOf r i ≡ slotOf r j → i ≡ j
   unfolding slotOf
   slot-apart i j p q =
       wrap-by (λ s. s ≡ wrapOf (r .cap) (r .slot + j) → i ≡ j) (r .cap) (r .slot + i)
@@ -59,7 +60,7 @@ module _ (r : Ring) (h : r .slot < r .cap) where
       (λ a. wrap-by (λ s. r .slot + i - r .cap ≡ s → i ≡ j) (r .cap) (r .slot + j) (λ b e. omega arith) (λ b e. omega arith))
 
   -- after k packets went, packet i is what packet k + i was
-  slot-removed : (k i : ℕ) → k + i < r .cap → slotOf (removed k r) i ≡ slotOf r (k + i)
+  pub slot-removed : (k i : ℕ) → k + i < r .cap → slotOf (removed k r) i ≡ slotOf r (k + i)
   unfolding slotOf
   slot-removed k i q =
       wrap-by (λ s. wrapOf (r .cap) (s + i) ≡ wrapOf (r .cap) (r .slot + (k + i))) (r .cap) (r .slot + k)
@@ -93,7 +94,7 @@ none = entry 0 0 0 0 0 0
 
 module _ (r : Ring) (xs : List ℕ) (p : Placed r xs) where
   -- a slot of the ring lies within the area
-  slot-within : (i : ℕ) → i ≤ r .cap → slotOf r i * 6 + 6 ≤ length xs
+  pub slot-within : (i : ℕ) → i ≤ r .cap → slotOf r i * 6 + 6 ≤ length xs
   slot-within i h = let below = slot-below r (p .slot) i h in let q = p .area in omega arith
 
   pub packets-set : (i : ℕ) (e : Entry) → i < r .len → packets r (writeE xs (slotOf r i) e) ≡ set (packets r xs) i e

@@ -34,19 +34,22 @@ less-requires : tie.Need-less-requires
 less-requires c κs = search needs
 
 -- src/lib.rt:195:19
-sub-t17 : tie.Need-sub-t17
-sub-t17 c =
+sub-put : tie.Need-sub-put
+sub-put c =
     gone-few _ _ _ _ _ _ (c .before .before .before .before .before .remove-below .ensures)
 
--- src/lib.rt:180:5
+put-requires : tie.Need-put-requires
+put-requires c κs = search needs
+
 same-length : tie.Need-same-length
 same-length c = search needs
 
 -- src/lib.rt:180:5
 returns : tie.Need-returns
 returns c =
-    removed-is _ _ _ _ _ _ _ _ _ (c .before .before .before .before .before .before .before .plus .ensures)
-    (c .before .before .before .before .before .remove-below .ensures) (c .before .before .remove-front .ensures) (c .before .less .ensures)
+    rw (c .put .ensures)
+    (removed-is _ _ _ _ _ _ _ _ _ (c .before .before .before .before .before .before .before .before .plus .ensures)
+    (c .before .before .before .before .before .before .remove-below .ensures) (c .before .before .before .remove-front .ensures) (c .before .before .less .ensures))
 
 pub remove-spec : {M : Type 1} → statement M
 remove-spec =
@@ -58,6 +61,7 @@ remove-spec =
     remove-front-requires
     cast-less
     less-requires
-    sub-t17
+    sub-put
+    put-requires
     same-length
     returns)

@@ -1,0 +1,15 @@
+-- `inspect::sent_kept` meets its contract: the seven tests.
+-- Assumes nothing.
+use borrow.Author.Needs.{needs}
+use Rattle.inspect.specs.Kept.Laws.{sent-is}
+use Rattle.inspect.proofs.sent_kept.Statement.{statement}
+use Rattle.inspect.proofs.sent_kept.Tie as tie
+
+cast-result : tie.Need-cast-result
+cast-result c = search needs
+
+returns : tie.Need-returns
+returns c = sent-is _ _
+
+pub sent-kept-spec : {M : Type 1} → statement M
+sent-kept-spec = tie.close (tie.spec cast-result returns)

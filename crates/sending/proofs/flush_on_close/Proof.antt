@@ -1,0 +1,94 @@
+use native.Mathlib.Omega.{arith}
+use Rattle.buffer.specs.State.Facts.{stands-facts, stands-entry, stands-covers}
+use Rattle.sending.specs.Sending.Rules.{flush-acts}
+use borrow.Author.Needs.{needs}
+use Rattle.sending.proofs.flush_on_close.Statement.{statement}
+use Rattle.sending.proofs.flush_on_close.Tie as tie
+use Rattle.sending.proofs.flush_on_close.Reads as reads
+use Rattle.sending.proofs.flush_on_close.Lts as lts
+use Rattle.buffer.proofs.SendBuffer.remove.Reads as remove-reads
+use Rattle.buffer.proofs.SendBuffer.wire_sizes.Reads as wire-sizes-reads
+use Rattle.records.proofs.Record.write.Reads as write-reads
+use Rattle.ring.proofs.Ring.entry.Reads as entry-reads
+use Rattle.sending.proofs.holding.Reads as holding-reads
+use Rattle.sending.proofs.send_record.Reads as send-record-reads
+
+-- src/lib.rt:231:9
+entry-requires : tie.Need-entry-requires
+entry-requires c κs = search needs
+
+-- src/lib.rt:232:9
+wire-sizes-requires : tie.Need-wire-sizes-requires
+wire-sizes-requires c κs =
+    let s = c .before .before .before .before .before .before in
+    let S = s .pre .0 .ready .stands in
+    let K = s .pre .0 .ready .kept in
+    let k = stands-facts S K in
+    record {
+      placed = k .placed;
+      some = s .pre .0 .one;
+      overhead = k .settings .overhead;
+      lens = λ i h. let e = stands-entry S K i h in omega (arith, e .len, k .settings .size);
+    }
+
+-- src/lib.rt:233:34
+sub-remove : tie.Need-sub-remove
+sub-remove c = let s = c .before .before .before .before .before .before .before .before .before in rw (c .before .before .wire-sizes .ensures) (stands-covers (s .pre .0 .ready .stands) (s .pre .0 .ready .kept) 1)
+
+-- src/lib.rt:233:9
+remove-requires : tie.Need-remove-requires
+remove-requires c κs =
+    let s = c .before .before .before .before .before .before .before .before .before in
+    let k = stands-facts (s .pre .0 .ready .stands) (s .pre .0 .ready .kept) in
+    record { cap = k .placed .cap; slot = k .placed .slot; len = k .placed .len; some = s .pre .0 .one; inside = k .inside }
+
+-- src/lib.rt:234:5
+send-record-requires : tie.Need-send-record-requires
+send-record-requires c κs =
+    let s = c .before .before .before .before .before .before .before .before .before .before .before .before in
+    let S = s .pre .0 .ready .stands in
+    let K = s .pre .0 .ready .kept in
+    let e = stands-entry S K 0 (s .pre .0 .one) in
+    let is = c .before .before .before .before .before .before .entry .ensures in
+    let k = stands-facts S K in
+    (rw is (e .time), rw is (e .message), rw is (omega (arith, e .len, k .settings .size)))
+
+-- src/lib.rt:234:5
+write-requires : tie.Need-write-requires
+write-requires c κs = c .before .before .before .before .before .before .before .before .before .before .before .before .before .before .pre .1
+
+-- src/lib.rt:235:5
+holding-requires : tie.Need-holding-requires
+holding-requires c κs = search needs
+
+-- src/lib.rt:217:1
+same-length : tie.Need-same-length
+same-length c = search needs
+
+-- src/lib.rt:217:1
+same-length-2 : tie.Need-same-length-2
+same-length-2 c = search needs
+
+-- src/lib.rt:217:1
+returns : tie.Need-returns
+returns c =
+    let s = c .before .before .before .before .before .before .before .before .before .before .before .before .before .before .before .before .before .before in
+    let k = stands-facts (s .pre .0 .ready .stands) (s .pre .0 .ready .kept) in
+    rw (c .holding .ensures)
+    (flush-acts _ _ _ _ _ _ _ _ _ _ _ _ (s .pre .0 .one) (k .front) (c .before .before .before .before .before .before .before .before .before .before .before .before .entry .ensures) (c .before .before .before .before .before .before .before .before .before .before .before .wire-sizes .ensures)
+    (c .before .before .before .before .before .before .before .before .remove .ensures) (c .before .before .before .before .before .send-record .ensures) (c .before .before .before .write .ensures))
+
+pub flush-on-close-spec : {M : Type 1} → statement M
+flush-on-close-spec =
+    tie.close
+    (tie.spec
+    entry-requires
+    wire-sizes-requires
+    sub-remove
+    remove-requires
+    send-record-requires
+    write-requires
+    holding-requires
+    same-length
+    same-length-2
+    returns)
