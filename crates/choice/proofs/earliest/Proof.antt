@@ -1,6 +1,8 @@
-use mathlib.Core.Path.{_≡_, refl, sym, ap, _∙_}
+-- `choice::earliest` meets its contract: what the packets behind give, or else what was found before them, is the choice.
+-- Assumes nothing.
+use mathlib.Core.Path.{_≡_, sym, _∙_}
 use mathlib.Core.Logic.{⊎-elim}
-use Prim.Native.Nat.{ℕ, _-_, _≤_}
+use Prim.Native.Nat.{_-_, _≤_}
 use native.Mathlib.Omega.{arith}
 use lib.ListN.{take, drop}
 use borrow.Author.Needs.{needs}
@@ -12,8 +14,6 @@ use Rattle.choice.specs.Choice.Laws as laws
 use Rattle.choice.proofs.earliest.Statement.{statement}
 use Rattle.choice.proofs.earliest.Tie as tie
 use Rattle.choice.proofs.earliest.Reads as reads
-use Rattle.choice.proofs.earliest.Lts as lts
-use Rattle.ring.proofs.Ring.entry.Reads as entry-reads
 
 abbrev Inv-loop : tie.InvT-loop
 Inv-loop ts-now ring at sent before₀ found₀ i₀ before found i =
@@ -23,27 +23,21 @@ Inv-loop ts-now ring at sent before₀ found₀ i₀ before found i =
 abbrev μ-loop : tie.MeasureT-loop
 μ-loop ts-now ring at sent before₀ found₀ i₀ before found i = sent - i
 
--- src/lib.rt:73:16
 cast-sent : tie.Need-cast-sent Inv-loop μ-loop
 cast-sent c = search needs
 
--- src/lib.rt:77:5
 loop-holds : tie.Need-loop-holds Inv-loop μ-loop
 loop-holds c = let s = c .before .before .before in (due-start (s .args .b) (s .args .ring .now) (s .pre) (s .args .ts-now), omega arith)
 
--- src/lib.rt:78:13
 entry-requires : tie.Need-entry-requires Inv-loop μ-loop
 entry-requires c κs = search needs
 
--- src/lib.rt:83:9
 add-i : tie.Need-add-i Inv-loop μ-loop
 add-i c = search needs
 
--- src/lib.rt:77:5
 loop-less : tie.Need-loop-less Inv-loop μ-loop
 loop-less c = search needs
 
--- src/lib.rt:77:5
 loop-again : tie.Need-loop-again Inv-loop μ-loop
 loop-again c =
     let lp = c .before .before .before .before in
@@ -57,7 +51,6 @@ loop-again c =
       omega (arith, turn),
     )
 
--- src/lib.rt:68:1
 returns : tie.Need-returns Inv-loop μ-loop
 returns c =
     let lp = c .before .before in
@@ -65,7 +58,6 @@ returns c =
     let all = due-end (s .args .b) (s .args .ring .now) (s .pre) (lp .loop .i) (lp .loop .before) (lp .loop .found) (c .before .loop-test .left) in
     rw (← lp .loop .inv .0, all, lt-ltb _ _ (c .if2 .taken))
 
--- src/lib.rt:68:1
 returns-2 : tie.Need-returns-2 Inv-loop μ-loop
 returns-2 c =
     let lp = c .before .before in

@@ -1,23 +1,19 @@
+-- `choice::is_late` meets its contract: the window is the settings'.
+-- Assumes nothing.
 use borrow.Author.Needs.{needs}
 use Rattle.choice.proofs.is_late.Statement.{statement}
 use Rattle.choice.proofs.is_late.Tie as tie
 use Rattle.choice.proofs.is_late.Reads as reads
-use Rattle.choice.proofs.is_late.Lts as lts
-use Rattle.buffer.proofs.Settings.late_window.Reads as late-window-reads
 
--- src/lib.rt:38:15
 late-window-requires : tie.Need-late-window-requires
 late-window-requires c κs = search needs
 
--- src/lib.rt:38:15
 cast-result : tie.Need-cast-result
 cast-result c = search needs
 
--- src/lib.rt:38:5
 add-result : tie.Need-add-result
 add-result c = search needs
 
--- src/lib.rt:34:1
 returns : tie.Need-returns
 returns c = rw (c .late-window .ensures)
 

@@ -1,5 +1,7 @@
-use mathlib.Core.Path.{_≡_, refl, sym, ap, _∙_}
-use Prim.Native.Nat.{ℕ, _+_, _-_, _≤_}
+-- `choice::late_packets` meets its contract: the loop has counted i packets, and the rest are counted from the last message on.
+-- Assumes nothing.
+use mathlib.Core.Path.{_≡_, sym, _∙_}
+use Prim.Native.Nat.{_+_, _-_, _≤_}
 use native.Mathlib.Omega.{arith}
 use lib.ListN.{drop}
 use borrow.Author.Needs.{needs}
@@ -10,9 +12,6 @@ use Rattle.choice.specs.Choice.Laws.{late-none, late-front, late-start, 
 use Rattle.choice.proofs.late_packets.Statement.{statement}
 use Rattle.choice.proofs.late_packets.Tie as tie
 use Rattle.choice.proofs.late_packets.Reads as reads
-use Rattle.choice.proofs.late_packets.Lts as lts
-use Rattle.choice.proofs.is_late.Reads as is-late-reads
-use Rattle.ring.proofs.Ring.entry.Reads as entry-reads
 
 abbrev Inv-loop : tie.InvT-loop
 Inv-loop c ts-now ring at message₀ i₀ message i =
@@ -21,39 +20,32 @@ Inv-loop c ts-now ring at message₀ i₀ message i =
 abbrev μ-loop : tie.MeasureT-loop
 μ-loop c ts-now ring at message₀ i₀ message i = at .len - i
 
--- src/lib.rt:48:9
 returns : tie.Need-returns Inv-loop μ-loop
 returns c = sym (late-none _ _ _ _ (c .if1 .taken))
 
--- src/lib.rt:50:9
 entry-requires : tie.Need-entry-requires Inv-loop μ-loop
 entry-requires c κs = search needs
 
--- src/lib.rt:51:9
 is-late-requires : tie.Need-is-late-requires Inv-loop μ-loop
 is-late-requires c κs =
     let s = c .before .before .before .before .before in
     let q = s .pre .entered 0 (omega (arith, c .before .if1 .left)) in
     (rw (c .entry .ensures) (q .time), s .pre .settings .latency)
 
--- src/lib.rt:52:9
 returns-2 : tie.Need-returns-2 Inv-loop μ-loop
 returns-2 c =
     let front = c .before .before .entry .ensures in
     sym (late-front _ _ _ _ (omega (arith, c .before .before .before .if1 .left)) (rw (← front) (sym (c .before .is-late .ensures) ∙ not-true _ (c .if2 .taken))))
 
--- src/lib.rt:56:5
 loop-holds : tie.Need-loop-holds Inv-loop μ-loop
 loop-holds c =
     let front = c .before .before .entry .ensures in
     let some = c .before .before .before .if1 .left in
     (rw front (late-start _ _ _ _ (omega (arith, some)) (rw (← front) (sym (c .before .is-late .ensures) ∙ not-false _ (c .if2 .left)))), omega (arith, some))
 
--- src/lib.rt:57:13
 entry-requires-2 : tie.Need-entry-requires-2 Inv-loop μ-loop
 entry-requires-2 c κs = search needs
 
--- src/lib.rt:58:14
 is-late-requires-2 : tie.Need-is-late-requires-2 Inv-loop μ-loop
 is-late-requires-2 c κs =
     let lp = c .before .before .before in
@@ -61,7 +53,6 @@ is-late-requires-2 c κs =
     let q = s .pre .entered (lp .loop .i) (c .before .if3 .taken) in
     (rw (c .entry2 .ensures) (q .time), s .pre .settings .latency)
 
--- src/lib.rt:59:13
 returns-3 : tie.Need-returns-3 Inv-loop μ-loop
 returns-3 c =
     let e = c .before .before .before .entry2 .ensures in
@@ -72,15 +63,12 @@ returns-3 c =
     (rw (← e, ← c .before .before .is-late2 .ensures) no) in
     sym (lp .loop .inv .0 ∙ omega (arith, stop))
 
--- src/lib.rt:62:9
 add-i : tie.Need-add-i Inv-loop μ-loop
 add-i c = search needs
 
--- src/lib.rt:56:5
 loop-less : tie.Need-loop-less Inv-loop μ-loop
 loop-less c = search needs
 
--- src/lib.rt:56:5
 loop-again : tie.Need-loop-again Inv-loop μ-loop
 loop-again c =
     let e = c .before .before .before .entry2 .ensures in
@@ -91,7 +79,6 @@ loop-again c =
     (rw (← e, ← c .before .before .is-late2 .ensures) yes) in
     (rw e (lp .loop .inv .0 ∙ omega (arith, go)), omega (arith, c .before .before .before .before .if3 .taken))
 
--- src/lib.rt:42:1
 returns-4 : tie.Need-returns-4 Inv-loop μ-loop
 returns-4 c =
     let lp = c .before .before in

@@ -1,3 +1,5 @@
+-- `choice::rule_of_the_rest` meets its contract: by the tests that are made.
+-- Assumes nothing.
 use borrow.Author.Needs.{needs}
 use mathlib.Core.Path.{sym, _∙_}
 use borrow.Author.Tests.{lt-ltb, le-ltb}
@@ -5,34 +7,26 @@ use Rattle.choice.specs.Choice.Laws.{rest-window, rest-unsent, rest-flus
 use Rattle.choice.proofs.rule_of_the_rest.Statement.{statement}
 use Rattle.choice.proofs.rule_of_the_rest.Tie as tie
 use Rattle.choice.proofs.rule_of_the_rest.Reads as reads
-use Rattle.choice.proofs.rule_of_the_rest.Lts as lts
-use Rattle.buffer.proofs.SendBuffer.flow_window_exceeded.Reads as flow-window-exceeded-reads
 
--- src/lib.rt:93:8
 flow-window-exceeded-requires : tie.Need-flow-window-exceeded-requires
 flow-window-exceeded-requires c κs = search needs
 
--- src/lib.rt:94:9
 returns : tie.Need-returns
 returns c = rest-window _ _ _ (sym (c .before .flow-window-exceeded .ensures) ∙ c .if1 .taken)
 
--- src/lib.rt:96:9
 cast-if2 : tie.Need-cast-if2
 cast-if2 c = search needs
 
--- src/lib.rt:97:9
 returns-2 : tie.Need-returns-2
 returns-2 c =
     rest-unsent _ _ _ (sym (c .before .before .before .before .flow-window-exceeded .ensures) ∙ c .before .before .before .if1 .left)
     (lt-ltb _ _ (c .if2 .taken))
 
--- src/lib.rt:100:9
 returns-3 : tie.Need-returns-3
 returns-3 c =
     rest-flush _ _ _ (sym (c .before .before .before .before .before .before .flow-window-exceeded .ensures) ∙ c .before .before .before .before .before .if1 .left)
     (le-ltb _ _ (c .before .before .if2 .left)) (c .if3 .taken)
 
--- src/lib.rt:89:1
 returns-4 : tie.Need-returns-4
 returns-4 c =
     rest-input _ _ _ (sym (c .before .before .before .before .before .before .flow-window-exceeded .ensures) ∙ c .before .before .before .before .before .if1 .left)

@@ -1,3 +1,5 @@
+-- `sending::resend_after` meets its contract: the first sending, or a later one.
+-- Assumes nothing.
 use mathlib.Core.Path.{_∙_}
 use native.Mathlib.Omega.{arith}
 use borrow.Author.Needs.{needs}
@@ -5,30 +7,22 @@ use Rattle.sending.specs.Sending.Laws.{wait-product, wait-first, wait-ag
 use Rattle.sending.proofs.resend_after.Statement.{statement}
 use Rattle.sending.proofs.resend_after.Tie as tie
 use Rattle.sending.proofs.resend_after.Reads as reads
-use Rattle.sending.proofs.resend_after.Lts as lts
-use Rattle.sending.proofs.smaller.Reads as smaller-reads
 
--- src/lib.rt:32:9
 smaller-requires : tie.Need-smaller-requires
 smaller-requires c κs = search needs
 
--- src/lib.rt:32:9
 returns : tie.Need-returns
 returns c = c .smaller .ensures ∙ wait-first _ _ (c .before .if1 .taken)
 
--- src/lib.rt:34:22
 mul-smaller : tie.Need-mul-smaller
 mul-smaller c = record { fits = omega (arith, wait-product _ _ (c .before .pre .1) (c .before .pre .0)) }
 
--- src/lib.rt:34:22
 add-smaller : tie.Need-add-smaller
 add-smaller c = record { fits = omega (arith, wait-product _ _ (c .before .pre .1) (c .before .pre .0)) }
 
--- src/lib.rt:34:5
 smaller-requires-2 : tie.Need-smaller-requires-2
 smaller-requires-2 c κs = search needs
 
--- src/lib.rt:27:1
 returns-2 : tie.Need-returns-2
 returns-2 c = c .smaller2 .ensures ∙ wait-again _ _ (c .before .if1 .left)
 

@@ -1,57 +1,44 @@
+-- `sending::send_next_lost_packet` meets its contract: the list's first number goes, and its packet is sent.
+-- Assumes nothing.
 use Rattle.buffer.specs.State.Facts.{stands-facts}
 use Rattle.sending.specs.Sending.Rules.{losing-sendable, loss-acts}
 use borrow.Author.Needs.{needs}
 use Rattle.sending.proofs.send_next_lost_packet.Statement.{statement}
 use Rattle.sending.proofs.send_next_lost_packet.Tie as tie
 use Rattle.sending.proofs.send_next_lost_packet.Reads as reads
-use Rattle.sending.proofs.send_next_lost_packet.Lts as lts
-use Rattle.buffer.proofs.SendBuffer.put.Reads as put-reads
-use Rattle.losses.proofs.pop.Reads as pop-reads
-use Rattle.numbers.proofs.SeqNumber.distance.Reads as distance-reads
-use Rattle.sending.proofs.send_packet.Reads as send-packet-reads
 
--- src/lib.rt:190:9
 pop-requires : tie.Need-pop-requires
 pop-requires c κs =
     let s = c .before .before .before .before .before .before in
     let k = stands-facts (s .pre .0 .ready .stands) (s .pre .0 .ready .kept) in
     record { some = s .pre .0 .some; inside = k .inside }
 
--- src/lib.rt:191:13
 distance-requires : tie.Need-distance-requires
 distance-requires c κs = search needs
 
--- src/lib.rt:191:13
 cast-i : tie.Need-cast-i
 cast-i c = search needs
 
--- src/lib.rt:192:41
 sub-put : tie.Need-sub-put
 sub-put c = search needs
 
--- src/lib.rt:192:9
 put-requires : tie.Need-put-requires
 put-requires c κs = search needs
 
--- src/lib.rt:193:5
 send-packet-requires : tie.Need-send-packet-requires
 send-packet-requires c κs =
     let s = c .before .before .before .before .before .before .before .before .before .before .before .before .before .before in
     (losing-sendable _ _ _ _ _ _ _ _ (c .before .before .before .before .before .before .before .pop .ensures) (c .before .before .before .before .distance .ensures) (c .before .before .put .ensures) (s .pre .0), s .pre .1)
 
--- src/lib.rt:176:1
 same-length : tie.Need-same-length
 same-length c = search needs
 
--- src/lib.rt:176:1
 same-length-2 : tie.Need-same-length-2
 same-length-2 c = search needs
 
--- src/lib.rt:176:1
 same-length-3 : tie.Need-same-length-3
 same-length-3 c = search needs
 
--- src/lib.rt:176:1
 returns : tie.Need-returns
 returns c =
     loss-acts _ _ _ _ _ _ _ _ (c .before .before .before .before .before .before .before .before .before .before .before .before .pop .ensures) (c .before .before .before .before .before .before .before .before .before .distance .ensures) (c .before .before .before .before .before .before .before .put .ensures) _ _ _ _ _

@@ -1,33 +1,27 @@
+-- `sending::send_next_packet` meets its contract: a sending of the next unsent.
+-- Assumes nothing.
 use mathlib.Core.Path.{refl}
 use borrow.Author.Needs.{needs}
 use Rattle.sending.specs.Sending.Laws.{acts-as}
 use Rattle.sending.proofs.send_next_packet.Statement.{statement}
 use Rattle.sending.proofs.send_next_packet.Tie as tie
 use Rattle.sending.proofs.send_next_packet.Reads as reads
-use Rattle.sending.proofs.send_next_packet.Lts as lts
-use Rattle.sending.proofs.send_packet.Reads as send-packet-reads
 
--- src/lib.rt:115:40
 cast-send-packet : tie.Need-cast-send-packet
 cast-send-packet c = search needs
 
--- src/lib.rt:115:57
 add-send-packet : tie.Need-add-send-packet
 add-send-packet c = search needs
 
--- src/lib.rt:115:5
 send-packet-requires : tie.Need-send-packet-requires
 send-packet-requires c κs = search needs
 
--- src/lib.rt:104:1
 same-length : tie.Need-same-length
 same-length c = search needs
 
--- src/lib.rt:104:1
 same-length-2 : tie.Need-same-length-2
 same-length-2 c = search needs
 
--- src/lib.rt:104:1
 returns : tie.Need-returns
 returns c = acts-as _ _ _ _ _ _ _ _ _ _ (λ lost. refl) (c .before .before .before .before .send-packet .ensures)
 

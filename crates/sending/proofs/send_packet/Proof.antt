@@ -1,63 +1,47 @@
+-- `sending::send_packet` meets its contract: the entry is read, written anew and recorded.
+-- Assumes nothing.
 use borrow.Author.Needs.{needs}
 use Rattle.sending.specs.Sending.Laws.{sent-from}
 use Rattle.sending.proofs.send_packet.Statement.{statement}
 use Rattle.sending.proofs.send_packet.Tie as tie
 use Rattle.sending.proofs.send_packet.Reads as reads
-use Rattle.sending.proofs.send_packet.Lts as lts
-use Rattle.buffer.proofs.SendBuffer.put.Reads as put-reads
-use Rattle.numbers.proofs.SeqNumber.plus.Reads as plus-reads
-use Rattle.records.proofs.Record.write.Reads as write-reads
 use Rattle.ring.proofs.Ring.entry.Reads as entry-reads
-use Rattle.ring.proofs.Ring.set_entry.Reads as set-entry-reads
-use Rattle.sending.proofs.send_record.Reads as send-record-reads
-use Rattle.sending.proofs.stamped.Reads as stamped-reads
 
--- src/lib.rt:88:9
 entry-requires : tie.Need-entry-requires
 entry-requires c κs = search needs
 
--- src/lib.rt:89:27
 stamped-requires : tie.Need-stamped-requires
 stamped-requires c κs =
     let s = c .before .before .before .before .before .before .before in
     (rw (c .before .entry .ensures) (s .pre .0 .count), s .pre .0 .early, s .pre .0 .mean, s .pre .0 .variance)
 
--- src/lib.rt:89:5
 set-entry-requires : tie.Need-set-entry-requires
 set-entry-requires c κs = search needs
 
--- src/lib.rt:90:34
 cast-plus : tie.Need-cast-plus
 cast-plus c = search needs
 
--- src/lib.rt:90:23
 plus-requires : tie.Need-plus-requires
 plus-requires c κs = search needs
 
--- src/lib.rt:90:5
 send-record-requires : tie.Need-send-record-requires
 send-record-requires c κs =
     let s = c .before .before .before .before .before .before .before .before .before .before .before .before in
     let e = c .before .before .before .before .before .before .entry .ensures in
     (rw e (s .pre .0 .time), rw e (s .pre .0 .message), rw e (s .pre .0 .len))
 
--- src/lib.rt:90:5
 write-requires : tie.Need-write-requires
 write-requires c κs = c .before .before .before .before .before .before .before .before .before .before .before .before .before .before .pre .1
 
--- src/lib.rt:91:5
 put-requires : tie.Need-put-requires
 put-requires c κs = search needs
 
--- src/lib.rt:72:1
 same-length : tie.Need-same-length
 same-length c = search needs
 
--- src/lib.rt:72:1
 same-length-2 : tie.Need-same-length-2
 same-length-2 c = search needs
 
--- src/lib.rt:72:1
 returns : tie.Need-returns
 returns c =
     let s = c .before .before .before .before .before .before .before .before .before .before .before .before .before .before .before .before .before .before in

@@ -1,45 +1,35 @@
+-- `sending::send_record` meets its contract: the flags by the entry's words.
+-- Assumes nothing.
 use borrow.Author.Needs.{needs}
 use Rattle.sending.specs.Sending.Laws.{recorded}
 use Rattle.sending.proofs.send_record.Statement.{statement}
 use Rattle.sending.proofs.send_record.Tie as tie
 use Rattle.sending.proofs.send_record.Reads as reads
-use Rattle.sending.proofs.send_record.Lts as lts
-use Rattle.encapsulate.proofs.stamp.Reads as stamp-reads
-use Rattle.sending.proofs.smaller.Reads as smaller-reads
 
--- src/lib.rt:61:17
 smaller-requires : tie.Need-smaller-requires
 smaller-requires c κs = search needs
 
--- src/lib.rt:61:17
 mul-t5 : tie.Need-mul-t5
 mul-t5 c = search needs
 
--- src/lib.rt:61:44
 smaller-requires-2 : tie.Need-smaller-requires-2
 smaller-requires-2 c κs = search needs
 
--- src/lib.rt:61:17
 add-t7 : tie.Need-add-t7
 add-t7 c = search needs
 
--- src/lib.rt:61:16
 cast-t8 : tie.Need-cast-t8
 cast-t8 c = search needs
 
--- src/lib.rt:62:14
 cast-t9 : tie.Need-cast-t9
 cast-t9 c = search needs
 
--- src/lib.rt:64:15
 cast-t10 : tie.Need-cast-t10
 cast-t10 c = search needs
 
--- src/lib.rt:65:16
 stamp-requires : tie.Need-stamp-requires
 stamp-requires c κs = search needs
 
--- src/lib.rt:55:1
 returns : tie.Need-returns
 returns c =
     recorded _ _ _ _ _ _ (c .before .before .before .before .smaller .ensures) (c .before .before .before .smaller2 .ensures) (c .stamp .ensures)

@@ -1,40 +1,33 @@
+-- `sending::send_unsent` meets its contract: the two sendings of rule 5, one after the other.
+-- Assumes nothing.
 use native.Mathlib.Omega.{arith}
 use Rattle.sending.specs.Sending.Rules.{sendable, sixteen-after, unsent-acts}
 use borrow.Author.Needs.{needs}
 use Rattle.sending.proofs.send_unsent.Statement.{statement}
 use Rattle.sending.proofs.send_unsent.Tie as tie
 use Rattle.sending.proofs.send_unsent.Reads as reads
-use Rattle.sending.proofs.send_unsent.Lts as lts
-use Rattle.sending.proofs.send_next_16n_packet.Reads as send-next-16n-packet-reads
-use Rattle.sending.proofs.send_next_packet.Reads as send-next-packet-reads
 
--- src/lib.rt:155:9
 send-next-packet-requires : tie.Need-send-next-packet-requires
 send-next-packet-requires c κs =
     let s = c .before .before .before .before in
     let r = s .pre .0 .ready in
     (sendable (r .stands) (r .kept) _ _ (s .pre .1 .0) (s .pre .1 .1), omega (arith, s .pre .1 .2))
 
--- src/lib.rt:156:52
 add-send-next-16n-packet : tie.Need-add-send-next-16n-packet
 add-send-next-16n-packet c = search needs
 
--- src/lib.rt:156:5
 send-next-16n-packet-requires : tie.Need-send-next-16n-packet-requires
 send-next-16n-packet-requires c κs =
     let s = c .before .before .before .before .before .before .before .before .before .before .before in
     let same = c .before .before .before .before .before .before .send-next-packet .kept in
     (sixteen-after _ _ _ _ _ _ _ _ _ (s .pre .0) (s .pre .1 .0) (s .pre .1 .1) (c .before .before .before .before .before .before .send-next-packet .ensures), let e = same .1 .1 .1 .0 in omega (arith, s .pre .1 .2, e))
 
--- src/lib.rt:144:1
 same-length : tie.Need-same-length
 same-length c = search needs
 
--- src/lib.rt:144:1
 same-length-2 : tie.Need-same-length-2
 same-length-2 c = search needs
 
--- src/lib.rt:144:1
 returns : tie.Need-returns
 returns c = unsent-acts _ _ _ _ _ _ _ _ _ _ _ _ (c .before .before .before .before .before .before .before .before .before .before .before .send-next-packet .ensures) (c .before .before .before .before .send-next-16n-packet .ensures)
 

@@ -1,3 +1,5 @@
+-- `sending::stamped` meets its contract: by what is added to now.
+-- Assumes nothing.
 use Prim.Native.Nat.{_-_, _^_, _≤_}
 use native.Mathlib.Omega.{arith}
 use borrow.Author.Needs.{needs}
@@ -6,49 +8,36 @@ use Rattle.sending.specs.Sending.Laws.{wait-small}
 use Rattle.sending.proofs.stamped.Statement.{statement}
 use Rattle.sending.proofs.stamped.Tie as tie
 use Rattle.sending.proofs.stamped.Reads as reads
-use Rattle.sending.proofs.stamped.Lts as lts
-use Rattle.sending.proofs.resend_after.Reads as resend-after-reads
-use Rattle.sending.proofs.smaller.Reads as smaller-reads
 
--- src/lib.rt:42:16
 cast-base : tie.Need-cast-base
 cast-base c = search needs
 
--- src/lib.rt:42:39
 cast-base-2 : tie.Need-cast-base-2
 cast-base-2 c = search needs
 
--- src/lib.rt:42:34
 mul-base : tie.Need-mul-base
 mul-base c = search needs
 
--- src/lib.rt:42:16
 add-base : tie.Need-add-base
 add-base c = search needs
 
--- src/lib.rt:42:16
 add-base-2 : tie.Need-add-base-2
 add-base-2 c = search needs
 
--- src/lib.rt:49:32
 add-smaller : tie.Need-add-smaller
 add-smaller c = search needs
 
--- src/lib.rt:49:16
 smaller-requires : tie.Need-smaller-requires
 smaller-requires c κs = search needs
 
--- src/lib.rt:50:26
 resend-after-requires : tie.Need-resend-after-requires
 resend-after-requires c κs = search needs
 
--- src/lib.rt:50:17
 add-t7 : tie.Need-add-t7
 add-t7 c =
     let small : c .resend-after .result ≤ 2 ^ 30 - 1 = rw (c .resend-after .ensures) (wait-small _ _) in
     record { fits = omega (arith, c .before .before .before .before .pre .1, small) }
 
--- src/lib.rt:38:1
 returns : tie.Need-returns
 unfolding stamped
 returns c = rw (c .before .smaller .ensures, c .resend-after .ensures)

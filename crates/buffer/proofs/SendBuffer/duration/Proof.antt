@@ -1,3 +1,5 @@
+-- `buffer::SendBuffer::duration` meets its contract: the time by the ring's two ends.
+-- Assumes nothing.
 use mathlib.Core.Path.{sym, _∙_}
 use native.Mathlib.Omega.{arith}
 use borrow.Author.Needs.{needs}
@@ -5,29 +7,22 @@ use Rattle.buffer.specs.State.Reports.{time-none, time-some}
 use Rattle.buffer.proofs.SendBuffer.duration.Statement.{statement}
 use Rattle.buffer.proofs.SendBuffer.duration.Tie as tie
 use Rattle.buffer.proofs.SendBuffer.duration.Reads as reads
-use Rattle.buffer.proofs.SendBuffer.duration.Lts as lts
-use Rattle.ring.proofs.Ring.entry.Reads as entry-reads
 
--- src/lib.rt:156:13
 returns : tie.Need-returns
 returns c = sym (time-none _ _ (omega arith))
 
--- src/lib.rt:158:13
 entry-requires : tie.Need-entry-requires
 entry-requires c κs = search needs
 
--- src/lib.rt:159:13
 entry-requires-2 : tie.Need-entry-requires-2
 entry-requires-2 c κs = search needs
 
--- src/lib.rt:161:13
 returns-2 : tie.Need-returns-2
 returns-2 c =
     let front = c .before .before .before .before .before .entry .ensures in
     let back = c .before .before .before .entry2 .ensures in
     sym (time-some _ _ (omega arith) ∙ rw (← back, ← front) (omega arith))
 
--- src/lib.rt:150:5
 returns-3 : tie.Need-returns-3
 returns-3 c =
     let front = c .before .before .before .before .before .before .before .entry .ensures in

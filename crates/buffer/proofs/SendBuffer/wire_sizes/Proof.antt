@@ -1,5 +1,7 @@
-use mathlib.Core.Path.{_≡_, refl, sym, _∙_}
-use Prim.Native.Nat.{_+_, _-_, _*_, _≤_}
+-- `buffer::SendBuffer::wire_sizes` meets its contract: the loop has added up the first i packets.
+-- Assumes nothing.
+use mathlib.Core.Path.{_≡_}
+use Prim.Native.Nat.{_-_, _*_, _≤_}
 use native.Mathlib.Omega.{arith}
 use lib.ListN.{take}
 use borrow.Author.Needs.{needs}
@@ -9,8 +11,6 @@ use Rattle.buffer.specs.State.View.{sizes-none, sizes-more}
 use Rattle.buffer.proofs.SendBuffer.wire_sizes.Statement.{statement}
 use Rattle.buffer.proofs.SendBuffer.wire_sizes.Tie as tie
 use Rattle.buffer.proofs.SendBuffer.wire_sizes.Reads as reads
-use Rattle.buffer.proofs.SendBuffer.wire_sizes.Lts as lts
-use Rattle.ring.proofs.Ring.entry.Reads as entry-reads
 
 abbrev Inv-loop : tie.InvT-loop
 Inv-loop c ring k at sum₀ i₀ sum i =
@@ -26,38 +26,30 @@ short c =
     let s = lp .before .before .before in
     rw (c .before .before .entry .ensures) (s .pre .lens (lp .loop .i) (omega (arith, s .pre .some, lp .loop .inv .2, c .before .before .before .loop-test .taken)))
 
--- src/lib.rt:174:9
 loop-holds : tie.Need-loop-holds Inv-loop μ-loop
 loop-holds c = (sizes-none (c .before .before .args .self .ring) (c .before .before .args .ring .now) _, omega arith, omega arith)
 
--- src/lib.rt:175:17
 entry-requires : tie.Need-entry-requires Inv-loop μ-loop
 entry-requires c κs = search needs
 
--- src/lib.rt:176:28
 cast-sum : tie.Need-cast-sum Inv-loop μ-loop
 cast-sum c = search needs
 
--- src/lib.rt:176:20
 add-sum : tie.Need-add-sum Inv-loop μ-loop
 add-sum c = record { fits = omega (arith, short c, c .before .before .before .before .before .before .before .pre .overhead) }
 
--- src/lib.rt:176:13
 add-sum-2 : tie.Need-add-sum-2 Inv-loop μ-loop
 add-sum-2 c =
     let lp = c .before .before .before .before in
     let s = lp .before .before .before in
     record { fits = omega (arith, short c, s .pre .overhead, s .pre .some, s .pre .placed .len, s .pre .placed .cap, lp .loop .inv .1, lp .loop .inv .2) }
 
--- src/lib.rt:177:13
 add-i : tie.Need-add-i Inv-loop μ-loop
 add-i c = search needs
 
--- src/lib.rt:174:9
 loop-less : tie.Need-loop-less Inv-loop μ-loop
 loop-less c = search needs
 
--- src/lib.rt:174:9
 loop-again : tie.Need-loop-again Inv-loop μ-loop
 loop-again c =
     let lp = c .before .before .before .before in
@@ -67,7 +59,6 @@ loop-again c =
     let is = c .before .before .entry .ensures in
     (rw (more, ← is, ← lp .loop .inv .0), omega (arith, short c, s .pre .overhead, lp .loop .inv .1), omega (arith, turn))
 
--- src/lib.rt:167:5
 returns : tie.Need-returns Inv-loop μ-loop
 returns c =
     let lp = c .before in

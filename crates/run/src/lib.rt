@@ -1,0 +1,161 @@
+// The run: document 01, "Run"; the Rust's `next_snd_actions` with its `SenderAlgorithmIterator`. The crate choice says which rule applies, the
+// crate sending does what it says, and here they are done one after the other.
+ghost use mathlib.Core.Path.{_≡_};
+ghost use Prim.Native.Nat.{_+_, _*_, _≤_, _<_, _-_};
+ghost use lib.ListN.{length};
+ghost use Rattle.buffer.specs.State.{settingsOf, state};
+ghost use Rattle.run.specs.Run.{world, run};
+ghost use Rattle.run.specs.Run.Turns.{Turning, Done, Swept, Runnable};
+use buffer::SendBuffer;
+use buffer::Settings;
+use choice::Rule;
+
+// The books after a run, how many records it wrote, and the budget that is left.
+pub struct Ran {
+    pub buffer: SendBuffer,
+    pub records: usize,
+    pub left: u32,
+}
+
+// The books after a turn, how many records there are then, and whether it ends the run.
+struct Progress {
+    buffer: SendBuffer,
+    count: usize,
+    ends: bool,
+}
+
+// The first of rules 2 to 7 that applies.
+fn turn(
+    b: SendBuffer,
+    c: Settings,
+    ts_now: u64,
+    draining: bool,
+    ring: &mut [u64],
+    lost: &mut [u32],
+    out: &mut [u8],
+    n: usize,
+) -> Progress
+    requires { ⌜ Turning (settingsOf c) «ts_now» (state b (now ring) (now lost)) n (now out) ⌝ }
+    ensures { λ r. ⌜ Done (settingsOf c) «ts_now» draining (state b (now (ring .entry)) (now (lost .entry))) n (now (out .entry)) (state (r .buffer) (now (ring .exit)) (now (lost .exit))) (r .count) (r .ends) (now (out .exit)) ⌝ }
+{
+    match choice::first_rule(b, c, ts_now, draining, ring) {
+        Rule::Loss => Progress {
+            buffer: sending::send_next_lost_packet(b, ts_now, ring, lost, out, n),
+            count: n + 1,
+            ends: false,
+        },
+        Rule::Due(i) => Progress {
+            buffer: sending::send_next_rto_packet(b, ts_now, i, ring, out, n),
+            count: n + 1,
+            ends: false,
+        },
+        Rule::Window => {
+            sending::wait_for_ack(b, out, n);
+            Progress {
+                buffer: b,
+                count: n + 1,
+                ends: true,
+            }
+        }
+        Rule::Unsent => {
+            let w = sending::send_unsent(b, ts_now, ring, out, n);
+            let buffer = w.buffer;
+            Progress {
+                buffer,
+                count: w.count,
+                ends: false,
+            }
+        }
+        Rule::Flush => Progress {
+            buffer: sending::flush_on_close(b, c, ring, lost, out, n),
+            count: n + 1,
+            ends: false,
+        },
+        Rule::Input => {
+            sending::wait_for_input(b, out, n);
+            Progress {
+                buffer: b,
+                count: n + 1,
+                ends: true,
+            }
+        }
+    }
+}
+
+fn less(a: u32, b: usize) -> u32
+    ensures { λ r. ⌜ r ≡ a - b ⌝ }
+{
+    if (a as usize) < b { 0 } else { a - b as u32 }
+}
+
+// Rule 1, where the front is late.
+fn sweep(
+    b: SendBuffer,
+    c: Settings,
+    ts_now: u64,
+    ring: &[u64],
+    lost: &mut [u32],
+    out: &mut [u8],
+) -> Progress
+    requires { ⌜ Turning (settingsOf c) «ts_now» (state b (now ring) (now lost)) 0 (now out) ⌝ }
+    ensures { λ r. ⌜ Swept (settingsOf c) «ts_now» (state b (now (ring .entry)) (now (lost .entry))) (now (out .entry)) (state (r .buffer) (now (ring .entry)) (now (lost .exit))) (r .count) (now (out .exit)) ⌝ }
+{
+    let k = choice::late_packets(b, c, ts_now, ring);
+    if k < 1 {
+        return Progress {
+            buffer: b,
+            count: 0,
+            ends: false,
+        };
+    }
+    Progress {
+        buffer: sending::drop_too_late_packets(b, k, lost, out, 0),
+        count: 1,
+        ends: false,
+    }
+}
+
+// A run: what to send, to drop and to wait for, as records of 24 bytes in `out`. While budget remains, the first rule that applies.
+pub fn next_snd_actions(
+    b: SendBuffer,
+    c: Settings,
+    ts_now: u64,
+    budget: u32,
+    draining: bool,
+    ring: &mut [u64],
+    lost: &mut [u32],
+    out: &mut [u8],
+) -> Ran
+    requires { ⌜ Runnable (settingsOf c) «ts_now» budget (state b (now ring) (now lost)) (now out) ⌝ }
+    ensures { λ r. ⌜ world (state (r .buffer) (now (ring .exit)) (now (lost .exit))) (now (out .exit)) (r .records) (r .left)
+        ≡ run (settingsOf c) «ts_now» draining budget (state b (now (ring .entry)) (now (lost .entry))) (now (out .entry)) ⌝ }
+{
+    if budget < 1 {
+        return Ran {
+            buffer: b,
+            records: 0,
+            left: 0,
+        };
+    }
+    let first = sweep(b, c, ts_now, ring, lost, out);
+    let mut here = first.buffer;
+    let mut n = first.count;
+    let mut left = budget;
+    let records = loop {
+        if left < 1 {
+            break n;
+        }
+        let t = turn(here, c, ts_now, draining, ring, lost, out, n);
+        here = t.buffer;
+        if t.ends {
+            break t.count;
+        }
+        left = less(left, t.count - n);
+        n = t.count;
+    };
+    Ran {
+        buffer: here,
+        records,
+        left,
+    }
+}
