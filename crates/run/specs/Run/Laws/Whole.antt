@@ -1,8 +1,7 @@
--- The whole run on books that stand for a sender is the run of the rules, and what its loop keeps from turn to turn.
+-- The whole run on books that stand for a sender is the run of the rules.
 --   WorldStands                 books, records, their number and the budget left are those of the rules
+--   loop-ends, loop-goes        the loop, turn by turn
 --   loop-stands, run-stands     the turns; the run
---   InLoop                      where the loop is: so much of the run is still to do
---   in-loop, turn-on, turn-end, loop-done   it begins; a turn goes on, or ends the run; the budget is gone
 -- Assumes nothing.
 use mathlib.Core.Path.{_≡_, refl, sym, ap, _∙_, subst}
 use mathlib.Core.Bool.{Bool, true, false, cond}
