@@ -1,0 +1,3 @@
+pub mod Naks
+pub mod Payload
+pub mod Reports

@@ -1,0 +1,222 @@
+-- After any public calls from a fresh sender, refused ones included: the answers are those of the rules, the books stand for the rules' sender, and
+-- what the rules promise holds of it.
+--   Stood c w s          the world w stands for the sender s of the rules, which keeps the book rules
+--   one-answer, one-world, one-store   a call in such a world answers as the rules do, and leaves such a world
+--   always, stores, answers   after any calls: the books, the store, and the answer of the next one
+--   books-stay           the books are kept: no call answers 3
+--   demand-three         demand 3, whole, of the sender that the books stand for
+-- Assumes nothing.
+use mathlib.Core.Path.{_≡_, refl, sym, ap, _∙_, subst}
+use mathlib.Core.Bool.{true}
+use mathlib.Core.List.{List, [], _∷_, map}
+use Prim.Native.Nat.{ℕ, _*_, _≤_}
+use lib.ListN.{length}
+use Rattle.refusals.specs.declared.Verdict.the-variants.{Accepted, Refused}
+use Rattle.pacing.specs.declared.options.LiveBandwidthMode.{LiveBandwidthMode}
+use Rattle.rules.specs.Settings.{Settings, capacity, storeSize}
+use Rattle.rules.specs.Sender.{Sender, fresh}
+use Rattle.rules.specs.Books.Laws.{Kept, kept-facts}
+use Rattle.rules.specs.Calls as rules
+use Rattle.rules.specs.Refusals.{newVerdict}
+use Rattle.rules.specs.Promises.{Given, AllGiven, DemandThree}
+use Rattle.rules.specs.Message.{stored}
+use Rattle.rules.proofs.CallsKept.{answer-kept}
+use Rattle.rules.proofs.Store.{written-length}
+use Rattle.rules.proofs.Theorems as theorems
+use Rattle.rules.proofs.Theorems.{books-kept}
+use Rattle.encapsulate.specs.Split.{count}
+use Rattle.refusals.specs.declared.Verdict.{Verdict}
+use Rattle.buffer.specs.declared.Settings as code
+use Rattle.buffer.specs.State.{settingsOf}
+use Rattle.sender.specs.Books.{Books, books, rulesOf, kept}
+use Rattle.sender.specs.Books.Stands.{StandsFor, kept-is}
+use Rattle.sender.specs.Calls.Stands as Message
+use Rattle.sender.specs.Acks.Stands as Ack
+use Rattle.answers.specs.Naks.Stands as Nak
+use Rattle.answers.specs.Payload.Stands as Payload
+use Rattle.sender_run.specs.Runs.Stands as Run
+use Rattle.ack.specs.declared.FullAck.{FullAck}
+use Rattle.ack.specs.declared.FullAck.the-variants as full
+use Rattle.ack.specs.declared.AckRtt.{AckRtt}
+use Rattle.promises.specs.Promises.{World, Call, message, ack, nak, run, payload, ruleOf, Fits, AllFit, after, worlds, Same, started}
+
+pub record Stood (c : Settings) (w : World) (s : Sender) : Type 0 where
+  pub settings : rulesOf (w .books) ≡ c
+  pub stands : StandsFor (w .books) s
+  pub kept : Kept c s
+  pub room : storeSize c ≤ length (w .store)
+
+given : (k : Call) → Fits k → Given (ruleOf k)
+given (message time now bytes) f = tt
+given (ack n full.None rtt) f = tt
+given (ack n (full.Number m) rtt) f = f
+given (nak words list) f = tt
+given (run now p draining list) f = tt
+given (payload n) f = tt
+
+module _ {c : Settings} {w : World} {s : Sender} (S : Stood c w s) where
+  K : Kept (rulesOf (w .books)) s
+  K = subst (λ (d : Settings). Kept d s) (sym (S .settings)) (S .kept)
+
+  long : storeSize (rulesOf (w .books)) ≤ length (w .store)
+  long = rw (S .settings) (S .room)
+
+  pub one-answer : (k : Call) → Fits k → Same s k w (rules.answer (rulesOf (w .books)) (ruleOf k) s)
+  one-answer (message time now bytes) f = Message.message-is (w .books) s (S .stands) K time now bytes (w .store) long
+  one-answer (ack n full rtt) f = Ack.ack-is (w .books) s (S .stands) K n full rtt
+  one-answer (nak words list) f = Nak.nak-is (w .books) s (S .stands) K words list f
+  one-answer (run now p draining list) f = Run.run-is (w .books) s (S .stands) K now p draining list
+  one-answer (payload n) f = Payload.payload-is (w .books) s (S .stands) K n (w .store) long
+
+-- the store keeps its length
+module _ (c : Settings) (s : Sender) (time now : ℕ) (bytes store : List ℕ) (room : storeSize c ≤ length store) where
+  stored-long : storeSize c ≤ length (rules.storeAfter c (rules.message time now bytes) s store)
+  unfolding rules.storeAfter rules.storeBy stored
+  stored-long = go (rules.verdictOf c (rules.message time now bytes) s)
+    where
+      go : (v : Verdict) → storeSize c ≤ length (rules.storeBy c v (rules.message time now bytes) s store)
+      go Accepted = rw (written-length c bytes (s .pushed) 0 (count (c .size) (length bytes)) store room) room
+      go (Refused r) = room
+
+module _ {c : Settings} {w : World} {s : Sender} (S : Stood c w s) where
+  abbrev d : Settings
+  d = rulesOf (w .books)
+
+  keeps : (k : Call) → Fits k → Kept c (rules.answer c (ruleOf k) s .after)
+  keeps k f = answer-kept c (ruleOf k) s (given k f) (S .kept)
+
+  as-rules : (k : Call) → rules.answer d (ruleOf k) s ≡ rules.answer c (ruleOf k) s
+  as-rules k = ap (λ (e : Settings). rules.answer e (ruleOf k) s) (S .settings)
+
+  -- what a call leaves stands for what the rules leave
+  pub one-world : (k : Call) → Fits k → Stood c (after k w) (rules.answer c (ruleOf k) s .after)
+  unfolding after
+  one-world (message time now bytes) f =
+      let A = one-answer S (message time now bytes) f in
+      record {
+        settings = ap settingsOf (A .settings) ∙ S .settings;
+        stands = subst (λ (a : rules.Answer). StandsFor (after (message time now bytes) w .books) (a .after)) (as-rules (message time now bytes)) (A .stands);
+        kept = keeps (message time now bytes) f;
+        room = rw (A .store, S .settings) (stored-long c s time now bytes (w .store) (S .room));
+      }
+  one-world (ack n full rtt) f =
+      let A = one-answer S (ack n full rtt) f in
+      record {
+        settings = ap settingsOf (A .settings) ∙ S .settings;
+        stands = subst (λ (a : rules.Answer). StandsFor (after (ack n full rtt) w .books) (a .after)) (as-rules (ack n full rtt)) (A .stands);
+        kept = keeps (ack n full rtt) f;
+        room = S .room;
+      }
+  one-world (nak words list) f =
+      let A = one-answer S (nak words list) f in
+      record {
+        settings = ap settingsOf (A .settings) ∙ S .settings;
+        stands = subst (λ (a : rules.Answer). StandsFor (after (nak words list) w .books) (a .after)) (as-rules (nak words list)) (A .stands);
+        kept = keeps (nak words list) f;
+        room = S .room;
+      }
+  one-world (run now p draining list) f =
+      let A = one-answer S (run now p draining list) f in
+      record {
+        settings = ap settingsOf (A .settings) ∙ S .settings;
+        stands = subst (λ (a : rules.Answer). StandsFor (after (run now p draining list) w .books) (a .after)) (as-rules (run now p draining list)) (A .stands);
+        kept = keeps (run now p draining list) f;
+        room = S .room;
+      }
+  one-world (payload n) f =
+      let A = one-answer S (payload n) f in
+      let same : rules.answer c (rules.payload n) s .after ≡ s = sym (ap (λ (a : rules.Answer). a .after) (as-rules (payload n))) ∙ A .same in
+      record {
+        settings = S .settings;
+        stands = rw same (S .stands);
+        kept = keeps (payload n) f;
+        room = S .room;
+      }
+
+  -- only an accepted message writes to the store
+  pub one-store : (k : Call) → Fits k → after k w .store ≡ rules.storeAfter c (ruleOf k) s (w .store)
+  unfolding after rules.storeAfter rules.storeBy
+  one-store (message time now bytes) f =
+      one-answer S (message time now bytes) f .store ∙ ap (λ (e : Settings). rules.storeAfter e (rules.message time now bytes) s (w .store)) (S .settings)
+  one-store (ack n full rtt) f = go (rules.verdictOf c (ruleOf (ack n full rtt)) s)
+    where
+      go : (v : Verdict) → w .store ≡ rules.storeBy c v (ruleOf (ack n full rtt)) s (w .store)
+      go Accepted = refl
+      go (Refused r) = refl
+  one-store (nak words list) f = go (rules.verdictOf c (ruleOf (nak words list)) s)
+    where
+      go : (v : Verdict) → w .store ≡ rules.storeBy c v (ruleOf (nak words list)) s (w .store)
+      go Accepted = refl
+      go (Refused r) = refl
+  one-store (run now p draining list) f = go (rules.verdictOf c (ruleOf (run now p draining list)) s)
+    where
+      go : (v : Verdict) → w .store ≡ rules.storeBy c v (ruleOf (run now p draining list)) s (w .store)
+      go Accepted = refl
+      go (Refused r) = refl
+  one-store (payload n) f = go (rules.verdictOf c (ruleOf (payload n)) s)
+    where
+      go : (v : Verdict) → w .store ≡ rules.storeBy c v (ruleOf (payload n)) s (w .store)
+      go Accepted = refl
+      go (Refused r) = refl
+
+-- ## Any calls
+
+module _ (c : Settings) where
+  from-here : (ks : List Call) (w : World) (s : Sender) → AllFit ks → Stood c w s → Stood c (worlds ks w) (rules.calls c (map ruleOf ks) s)
+  unfolding worlds rules.calls
+  from-here [] w s f S = S
+  from-here (k ∷ ks) w s f S = from-here ks (after k w) (rules.answer c (ruleOf k) s .after) (f .1) (one-world S k (f .0))
+
+  stores-here : (ks : List Call) (w : World) (s : Sender) → AllFit ks → Stood c w s → worlds ks w .store ≡ rules.stores c (map ruleOf ks) s (w .store)
+  unfolding worlds rules.stores
+  stores-here [] w s f S = refl
+  stores-here (k ∷ ks) w s f S =
+      stores-here ks (after k w) (rules.answer c (ruleOf k) s .after) (f .1) (one-world S k (f .0))
+      ∙ ap (rules.stores c (map ruleOf ks) (rules.answer c (ruleOf k) s .after)) (one-store S k (f .0))
+
+all-given : (ks : List Call) → AllFit ks → AllGiven (map ruleOf ks)
+all-given [] f = tt
+all-given (k ∷ ks) f = (given k (f .0), all-given ks (f .1))
+
+-- A fresh sender that `new` gave, in areas as long as its capacity asks
+module _ (b : code.Settings) (mode : LiveBandwidthMode) (ring lost store : List ℕ) (accepted : newVerdict (settingsOf b) mode ≡ Accepted)
+    (entries : capacity (settingsOf b) * 6 ≤ length ring) (losses : capacity (settingsOf b) ≤ length lost) (payloads : storeSize (settingsOf b) ≤ length store) where
+  abbrev c : Settings
+  c = settingsOf b
+
+  abbrev start : World
+  start = started b mode ring lost store
+
+  new-kept : Kept c (fresh c mode)
+  unfolding rules.calls
+  new-kept = kept-facts c (fresh c mode) (books-kept c mode [] accepted tt)
+
+  -- the sender of the rules after the same calls
+  abbrev pub senderOf : List Call → Sender
+  senderOf ks = rules.calls c (map ruleOf ks) (fresh c mode)
+
+  start-stood : Stood c start (fresh c mode)
+  start-stood = record { settings = refl; stands = Message.made-stands b mode ring lost (new-kept .fields .settings) entries losses; kept = new-kept; room = payloads }
+
+  pub always : (ks : List Call) → AllFit ks → Stood c (worlds ks start) (senderOf ks)
+  always ks f = from-here c ks start (fresh c mode) f start-stood
+
+  -- and the store holds, byte for byte, what it does in the rules
+  pub stores : (ks : List Call) → AllFit ks → worlds ks start .store ≡ rules.stores c (map ruleOf ks) (fresh c mode) store
+  stores ks f = stores-here c ks start (fresh c mode) f start-stood
+
+  -- the next call's answer, and every word of its lent list, is that of the rules
+  pub answers : (ks : List Call) → AllFit ks → (k : Call) → Fits k → Same (senderOf ks) k (worlds ks start) (rules.answer c (ruleOf k) (senderOf ks))
+  answers ks f k g =
+      let S = always ks f in
+      subst (λ (d : Settings). Same (senderOf ks) k (worlds ks start) (rules.answer d (ruleOf k) (senderOf ks))) (S .settings) (one-answer S k g)
+
+  -- the books are kept, so the next call does not answer 3
+  pub books-stay : (ks : List Call) → AllFit ks → kept (worlds ks start .books) ≡ true
+  books-stay ks f =
+      let S = always ks f in
+      kept-is (worlds ks start .books) (senderOf ks) (S .stands) (subst (λ (d : Settings). Kept d (senderOf ks)) (sym (S .settings)) (S .kept))
+
+  -- demand 3, of the sender that the books stand for
+  pub demand-three : (ks : List Call) → AllFit ks → DemandThree c (senderOf ks)
+  demand-three ks f = theorems.demand-three c mode (map ruleOf ks) accepted (all-given ks f)

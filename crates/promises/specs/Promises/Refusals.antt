@@ -1,0 +1,158 @@
+-- "A refusal changes nothing": of any sender and areas at all, damaged ones too. Document 01: "All stays as before; 11 alone keeps a new RTT."
+--   verdictIn k w        what a call's tests come to
+--   refused-stays        a refused call leaves the sender, every word of the lent areas and the store as they were; 11 but for the RTT
+-- Assumes nothing.
+use mathlib.Core.Path.{_≡_, refl, sym, ap, _∙_}
+use mathlib.Core.Bool.{Bool, true, false, cond}
+use mathlib.Core.List.{List}
+use Prim.Native.Nat.{ℕ}
+use lib.Dec.{eqb}
+use lib.ListN.{length}
+use borrow.Author.Tests.{ne-eqb}
+use Rattle.refusals.specs.declared.Refusal.{Refusal}
+use Rattle.refusals.specs.declared.Verdict.{Verdict}
+use Rattle.refusals.specs.declared.Verdict.the-variants.{Accepted, Refused}
+use Rattle.refusals.specs.Table.{numberOf}
+use Rattle.refusals.specs.Verdict.{answer}
+use Rattle.sender.specs.Books.{Books, books, stateOf, rulesOf}
+use Rattle.sender.specs.Calls as Messages
+use Rattle.sender.specs.Calls.Stands as Message
+use Rattle.sender.specs.Acks as Acks
+use Rattle.sender.specs.Acks.Stands as Ack
+use Rattle.answers.specs.Naks as Naks
+use Rattle.answers.specs.Naks.Stands as Nak
+use Rattle.answers.specs.Payload as Payloads
+use Rattle.answers.specs.Payload.Stands as Payload
+use Rattle.sender_run.specs.Runs as Runs
+use Rattle.sender_run.specs.Runs.Stands as Run
+use Rattle.pacing.specs.declared.SenderCongestionControl.{SenderCongestionControl}
+use Rattle.pacing.specs.declared.Paced.the-variants as paced
+use Rattle.pacing.specs.Pacing.{due, moved, sndPeriod, input}
+use Rattle.pacing.specs.Pacing.{after as kept}
+use Rattle.buffer.specs.declared.Settings.{Settings}
+use Rattle.message.specs.declared.Pushed.{Pushed}
+use Rattle.ack.specs.declared.FullAck.{FullAck}
+use Rattle.ack.specs.declared.AckRtt.{AckRtt}
+use Rattle.ack.specs.declared.Acked.{Acked}
+use Rattle.ack.specs.declared.Acked.the-variants as acked
+use Rattle.ack.specs.Ack as AckOf
+use Rattle.ack.specs.Ack.Stands.{refused-keeps}
+use Rattle.buffer.specs.declared.SendBuffer.{SendBuffer}
+use Rattle.sender.specs.declared.Sender.{Sender}
+use Rattle.sender.specs.declared.Acknowledged.the-variants as acknowledged-as
+use Rattle.report.specs.Report as Report
+use Rattle.run.specs.Run as Run₀
+use Rattle.sender.specs.declared.Messaged.the-variants as messaged
+use Rattle.answers.specs.declared.Reported.the-variants as reported
+use Rattle.sender_run.specs.declared.Ran.the-variants as ran
+use Rattle.promises.specs.Promises.{World, Call, message, ack, nak, run, payload, after}
+
+unfoldable pub verdictIn : Call → World → Verdict
+verdictIn (message time now bytes) w = Message.verdictOf (Messages.message (w .books) time now bytes (w .store) .answer)
+verdictIn (ack n full rtt) w = Ack.verdictOf (Acks.ack (w .books) n full rtt .answer)
+verdictIn (nak words list) w = Nak.verdictOf (Naks.nak (w .books) words list .answer)
+verdictIn (run now p draining list) w = Run.verdictOf (Runs.run (w .books) now p draining list .answer)
+verdictIn (payload n) w = Payload.verdictOf (Payloads.payload (w .books) n (w .store))
+
+-- pacing refuses no message that the tests let through
+finished-accepts : (c : Settings) (p : Pushed) (k : SenderCongestionControl) (now m n : ℕ) → Message.verdictOf (Messages.finished c p (input k now m n)) ≡ Accepted
+unfolding input
+finished-accepts c p k now m n = go (due (k .next) now)
+  where
+    go : (t : Bool) → Message.verdictOf (Messages.finished c p (cond t (paced.Period (sndPeriod (moved k now)) (kept k now m n)) (paced.Silent (kept k now m n)))) ≡ Accepted
+    go true = refl
+    go false = refl
+
+module _ (w : World) (r : Refusal) where
+  abbrev g : Books
+  g = w .books
+
+  message-stays : (time now : ℕ) (bytes : List ℕ) → verdictIn (message time now bytes) w ≡ Refused r → after (message time now bytes) w ≡ w
+  unfolding verdictIn after Messages.message Messages.done
+  message-stays time now bytes = go (Messages.messageVerdict g time now (length bytes) (length (w .store)))
+    where
+      made : Messages.Messages
+      made = Messages.done g time now bytes (w .store)
+
+      go : (v : Verdict)
+          → Message.verdictOf (answer (λ q. Messages.area (messaged.Refused q) (g .ring) (g .lost) (w .store)) v made .answer) ≡ Refused r
+          → record {
+            books =
+                books (Message.senderAfter (g .sender) (answer (λ q. Messages.area (messaged.Refused q) (g .ring) (g .lost) (w .store)) v made .answer))
+                (answer (λ q. Messages.area (messaged.Refused q) (g .ring) (g .lost) (w .store)) v made .ring)
+                (answer (λ q. Messages.area (messaged.Refused q) (g .ring) (g .lost) (w .store)) v made .lost);
+            store = answer (λ q. Messages.area (messaged.Refused q) (g .ring) (g .lost) (w .store)) v made .store;
+          } ≡ w
+      go Accepted e = let z : Accepted ≡ Refused r = sym (finished-accepts _ _ _ _ _ _) ∙ e in cc
+      go (Refused q) e = refl
+
+  nak-stays : (words list : List ℕ) → verdictIn (nak words list) w ≡ Refused r → after (nak words list) w ≡ w
+  unfolding verdictIn after Naks.nak
+  nak-stays words list = go (Naks.nakVerdict g words (length list))
+    where
+      made : Naks.Naks
+      made = Naks.nakBy (g .sender) (Report.add (g .sender .buffer) words (g .lost) list)
+
+      go : (v : Verdict) → Nak.verdictOf (answer (λ q. Naks.naks (reported.Refused q) (g .lost) list) v made .answer) ≡ Refused r
+          → record {
+            books = books (Nak.senderAfter (g .sender) (answer (λ q. Naks.naks (reported.Refused q) (g .lost) list) v made .answer)) (g .ring) (answer (λ q. Naks.naks (reported.Refused q) (g .lost) list) v made .lost);
+            store = w .store;
+          } ≡ w
+      go Accepted e = cc
+      go (Refused q) e = refl
+
+  run-stays : (now p : ℕ) (draining : Bool) (list : List ℕ) → verdictIn (run now p draining list) w ≡ Refused r → after (run now p draining list) w ≡ w
+  unfolding verdictIn after Runs.run
+  run-stays now p draining list = go (Runs.runVerdict g now p (length list))
+    where
+      made : Runs.Runs
+      made = Runs.ranBy (g .sender) (Run₀.run (rulesOf g) now draining p (stateOf g) list)
+
+      go : (v : Verdict) → Run.verdictOf (answer (λ q. Runs.runs (ran.Refused q) (g .ring) (g .lost) list) v made .answer) ≡ Refused r
+          → record {
+            books =
+                books (Run.senderAfter (g .sender) (answer (λ q. Runs.runs (ran.Refused q) (g .ring) (g .lost) list) v made .answer))
+                (answer (λ q. Runs.runs (ran.Refused q) (g .ring) (g .lost) list) v made .ring)
+                (answer (λ q. Runs.runs (ran.Refused q) (g .ring) (g .lost) list) v made .lost);
+            store = w .store;
+          } ≡ w
+      go Accepted e = cc
+      go (Refused q) e = refl
+
+  -- an answer of the crate ack, with the sender round it
+  shown : (a : Acked) → (Ack.verdictOf (Acks.acknowledged (g .sender) a) ≡ AckOf.verdictOf a)
+      × (Ack.senderAfter (Acks.acknowledged (g .sender) a) ≡ Messages.senderOf (g .sender .settings) (AckOf.booksOf a) (g .sender .pacing))
+  shown (acked.Done b a) = (refl, refl)
+  shown (acked.Refused b q) = (refl, refl)
+
+  ack-stays : (n : ℕ) (full : FullAck) (rtt : AckRtt) → verdictIn (ack n full rtt) w ≡ Refused r → (numberOf r ≡ 11 → ⊥) → after (ack n full rtt) w ≡ w
+  unfolding verdictIn after Acks.ack
+  ack-stays n full rtt e₀ not11 = go (Acks.ackVerdict g n rtt) e₀
+    where
+      l : AckOf.Left
+      l = AckOf.update (rulesOf g) (record { 0 = n }) full rtt (stateOf g)
+
+      go : (v : Verdict)
+          → Ack.verdictOf (answer (λ q. Acks.acks (acknowledged-as.Refused (g .sender) q) (g .lost)) v (Acks.ackedBy (g .sender) l) .answer) ≡ Refused r
+          → record {
+            books =
+                books (Ack.senderAfter (answer (λ q. Acks.acks (acknowledged-as.Refused (g .sender) q) (g .lost)) v (Acks.ackedBy (g .sender) l) .answer)) (g .ring)
+                (answer (λ q. Acks.acks (acknowledged-as.Refused (g .sender) q) (g .lost)) v (Acks.ackedBy (g .sender) l) .lost);
+            store = w .store;
+          } ≡ w
+      go Accepted e =
+          let x = shown (l .answer) in
+          let k = refused-keeps (rulesOf g) (record { 0 = n }) full rtt (stateOf g) r (sym (x .0) ∙ e) in
+          let other : eqb (numberOf r) 11 ≡ false = ne-eqb (numberOf r) 11 not11 in
+          let same : AckOf.booksOf (l .answer) ≡ g .sender .buffer = k .books ∙ rw other in
+          ap (λ (s : Sender). record { books = books s (g .ring) (l .lost); store = w .store }) (x .1 ∙ ap (λ (b : SendBuffer). Messages.senderOf (g .sender .settings) b (g .sender .pacing)) same)
+          ∙ ap (λ (m : List ℕ). record { books = books (g .sender) (g .ring) m; store = w .store }) (k .lost)
+      go (Refused q) e = refl
+
+pub refused-stays : (k : Call) (w : World) (r : Refusal) → verdictIn k w ≡ Refused r → (numberOf r ≡ 11 → ⊥) → after k w ≡ w
+unfolding after
+refused-stays (message time now bytes) w r e n = message-stays w r time now bytes e
+refused-stays (ack m full rtt) w r e n = ack-stays w r m full rtt e n
+refused-stays (nak words list) w r e n = nak-stays w r words list e
+refused-stays (run now p draining list) w r e n = run-stays w r now p draining list e
+refused-stays (payload m) w r e n = refl

@@ -1,0 +1,58 @@
+-- `sender::Sender::ack` meets its contract: refused with all as it was, or answered as the crate ack does.
+-- Assumes nothing.
+use mathlib.Core.Path.{sym, _∙_}
+use Rattle.refusals.specs.Verdict.Laws.{answer-refused, answer-accepted}
+use Rattle.sender.specs.Acks.{ack}
+use Rattle.sender.specs.Acks.Laws.{asked, ack-done}
+use borrow.Author.Needs.{needs}
+use Rattle.sender.proofs.Sender.ack.Statement.{statement}
+use Rattle.sender.proofs.Sender.ack.Tie as tie
+
+judge-ack-requires : tie.Need-judge-ack-requires
+judge-ack-requires c κs = search needs
+
+enum-known-r : tie.Need-enum-known-r
+enum-known-r c = search needs
+
+enum-told : tie.Need-enum-told
+enum-told c = search needs
+
+update-largest-acked-seq-number-requires : tie.Need-update-largest-acked-seq-number-requires
+update-largest-acked-seq-number-requires c κs =
+    let told = c .before in
+    asked _ _ _ (sym (told .before .before .judge-ack .ensures) ∙ told .enum-told .given .1)
+
+acknowledge-requires : tie.Need-acknowledge-requires
+acknowledge-requires c κs = search needs
+
+same-length : tie.Need-same-length
+same-length c = search needs
+
+returns : tie.Need-returns
+unfolding ack
+returns c = answer-refused _ _ _ _ (c .before .before .before .judge-ack .ensures) _ (c .before .r .given .1)
+
+same-length-2 : tie.Need-same-length-2
+same-length-2 c = search needs
+
+returns-2 : tie.Need-returns-2
+unfolding ack
+returns-2 c =
+    let done = c .before .before .before in
+    let told = done .before .before in
+    ack-done _ _ _ _ _ _ _ (done .update-largest-acked-seq-number .ensures) (c .acknowledge .ensures)
+    ∙ answer-accepted _ _ _ _ (told .before .before .judge-ack .ensures) (told .enum-told .given .1)
+
+pub ack-spec : {M : Type 1} → statement M
+ack-spec =
+    tie.close
+    (tie.spec
+    judge-ack-requires
+    enum-known-r
+    enum-told
+    update-largest-acked-seq-number-requires
+    acknowledge-requires
+    same-length
+    returns
+    same-length-2
+    returns-2)

@@ -1,0 +1,52 @@
+-- An ACK on the sender and its lent areas. Document 01, "ACK", and refusals 2, 3 and 7 to 11: "All stays as before; 11 alone keeps a new RTT."
+--   ackVerdict g n rtt    refusals 2, 3, 7 and 8; the others are the crate ack's
+--   acknowledged s a      the sender with the books that an ACK left
+--   Acks, acks            the answer, and the loss area at its end; the ring's words are only read
+--   ack                   the call
+-- Assumes nothing.
+pub mod Laws
+pub mod Stands
+use mathlib.Core.List.{List}
+use Prim.Native.Nat.{ℕ, _^_}
+use lib.Dec.{leb}
+use lib.ListN.{length}
+use Rattle.refusals.specs.declared.Refusal.the-variants.{BadNumber, BadRtt}
+use Rattle.refusals.specs.declared.Verdict.{Verdict}
+use Rattle.refusals.specs.declared.Verdict.the-variants.{Accepted}
+use Rattle.refusals.specs.Verdict.{when, answer}
+use Rattle.rules.specs.Refusals.{badRtt}
+use Rattle.ack.specs.declared.FullAck.{FullAck}
+use Rattle.ack.specs.declared.AckRtt.{AckRtt}
+use Rattle.ack.specs.declared.Acked.{Acked}
+use Rattle.ack.specs.declared.Acked.the-variants as acked
+use Rattle.ack.specs.Ack.{Left, rttOf, update}
+use Rattle.sender.specs.declared.Sender.{Sender}
+use Rattle.sender.specs.declared.Acknowledged.{Acknowledged}
+use Rattle.sender.specs.declared.Acknowledged.the-variants as acknowledged-as
+use Rattle.sender.specs.Books.{Books, stateOf, rulesOf, areasShort, judge}
+use Rattle.sender.specs.Calls.{senderOf, then}
+
+-- row 7, BadNumber: "a sequence number is 2^31 or more"; row 8, BadRtt: "mean or variance over its range"
+unfoldable pub ackVerdict : Books → ℕ → AckRtt → Verdict
+ackVerdict g n rtt =
+    then (judge (areasShort (rulesOf g) (length (g .ring)) (length (g .lost))) g)
+    (when (leb (2 ^ 31) n) BadNumber (when (badRtt (rttOf rtt)) BadRtt Accepted))
+
+abbrev pub acknowledged : Sender → Acked → Acknowledged
+acknowledged s (acked.Done b a) = acknowledged-as.Done (senderOf (s .settings) b (s .pacing)) a
+acknowledged s (acked.Refused b r) = acknowledged-as.Refused (senderOf (s .settings) b (s .pacing)) r
+
+pub record Acks : Type 0 where
+  pub answer : Acknowledged
+  pub lost : List ℕ
+
+abbrev pub acks : Acknowledged → List ℕ → Acks
+acks answer lost = record { answer = answer; lost = lost }
+
+abbrev pub ackedBy : Sender → Left → Acks
+ackedBy s l = acks (acknowledged s (l .answer)) (l .lost)
+
+unfoldable pub ack : Books → ℕ → FullAck → AckRtt → Acks
+ack g n full rtt =
+    answer (λ r. acks (acknowledged-as.Refused (g .sender) r) (g .lost)) (ackVerdict g n rtt)
+    (ackedBy (g .sender) (update (rulesOf g) (record { 0 = n }) full rtt (stateOf g)))

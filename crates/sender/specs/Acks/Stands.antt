@@ -1,0 +1,135 @@
+-- An ACK on the sender and its lent areas is the ACK of the rules, for every sender that the books stand for and that keeps the book rules.
+--   verdictOf, saidOf, senderAfter   an answer's verdict, what it says, and the sender from then on
+--   Answers                          an outcome of the call is an answer of the rules
+--   ack-is, ack-kept                 the call answers and leaves what the rules say, 11 alone a new RTT, and the next one finds the books kept
+--   ack-short, ack-broken            where an area is too short, and then where the books break a rule
+-- Assumes nothing.
+use mathlib.Core.Path.{_≡_, refl, sym, ap, _∙_}
+use mathlib.Core.Bool.{Bool, true, false}
+use Prim.Native.Nat.{ℕ, _^_}
+use lib.Dec.{leb, eqb}
+use lib.ListN.{length}
+use borrow.Author.Tests.{leb-false}
+use Rattle.refusals.specs.declared.Refusal.{Refusal}
+use Rattle.refusals.specs.declared.Refusal.the-variants.{BadStore, BadState, BadNumber, BadRtt}
+use Rattle.refusals.specs.declared.Verdict.{Verdict}
+use Rattle.refusals.specs.declared.Verdict.the-variants.{Accepted, Refused}
+use Rattle.refusals.specs.Table.{numberOf}
+use Rattle.refusals.specs.Verdict.{when, answer}
+use Rattle.refusals.specs.Choice.{cond-by}
+use Rattle.rules.specs.Settings.{Settings}
+use Rattle.rules.specs.Sender as rules
+use Rattle.rules.specs.Ack.{acknowledge, takeRtt}
+use Rattle.rules.specs.Books.Laws.{Kept, facts-kept}
+use Rattle.rules.specs.Refusals as tests
+use Rattle.rules.specs.Refusals.{badRtt}
+use Rattle.rules.specs.Calls as calls
+use Rattle.rules.specs.Calls.Laws.{answer-by}
+use Rattle.rules.specs.Promises.{Given}
+use Rattle.buffer.specs.State.{settingsOf}
+use Rattle.ack.specs.declared.FullAck.{FullAck}
+use Rattle.ack.specs.declared.AckRtt.{AckRtt}
+use Rattle.ack.specs.declared.Acked.{Acked}
+use Rattle.ack.specs.declared.Acked.the-variants as acked
+use Rattle.ack.specs.Ack as Ack
+use Rattle.ack.specs.Ack.{fullOf, rttOf, update}
+use Rattle.ack.specs.Ack.Stands.{update-is}
+use Rattle.sender.specs.declared.Sender.{Sender}
+use Rattle.sender.specs.declared.Acknowledged.{Acknowledged}
+use Rattle.sender.specs.declared.Acknowledged.the-variants as done
+use Rattle.sender.specs.Books.{Books, books, stateOf, rulesOf, areasShort, kept, judge}
+use Rattle.sender.specs.Books.Stands.{StandsFor, stands-as, areas-long, judge-accepted, judge-short, judge-broken, next-kept}
+use Rattle.sender.specs.Calls.{senderOf}
+use Rattle.sender.specs.Acks.{ackVerdict, acknowledged, Acks, acks, ackedBy, ack}
+
+abbrev pub verdictOf : Acknowledged → Verdict
+verdictOf (done.Done s a) = Accepted
+verdictOf (done.Refused s r) = Refused r
+
+abbrev pub saidOf : Acknowledged → calls.Said
+saidOf (done.Done s a) = calls.Acked (a .received) (a .recovered) (fullOf (a .«send_ack2»))
+saidOf (done.Refused s r) = calls.Nothing
+
+abbrev pub senderAfter : Acknowledged → Sender
+senderAfter (done.Done s a) = s
+senderAfter (done.Refused s r) = s
+
+-- the outcome l of the call is the answer a of the rules
+pub record Answers (g : Books) (l : Acks) (a : calls.Answer) : Type 0 where
+  pub verdict : verdictOf (l .answer) ≡ a .verdict
+  pub said : saidOf (l .answer) ≡ a .said
+  pub settings : senderAfter (l .answer) .settings ≡ g .sender .settings
+  pub stands : StandsFor (books (senderAfter (l .answer)) (g .ring) (l .lost)) (a .after)
+
+record Shown (s : Sender) (a : Acked) : Type 0 where
+  pub verdict : verdictOf (acknowledged s a) ≡ Ack.verdictOf a
+  pub said : saidOf (acknowledged s a) ≡ Ack.saidOf a
+  pub sender : senderAfter (acknowledged s a) ≡ senderOf (s .settings) (Ack.booksOf a) (s .pacing)
+
+shown : (s : Sender) (a : Acked) → Shown s a
+shown s (acked.Done b a) = record { verdict = refl; said = refl; sender = refl }
+shown s (acked.Refused b r) = record { verdict = refl; said = refl; sender = refl }
+
+module _ (g : Books) (s : rules.Sender) (S : StandsFor g s) (K : Kept (rulesOf g) s) (n : ℕ) (full : FullAck) (rtt : AckRtt) where
+  abbrev c : Settings
+  c = rulesOf g
+
+  abbrev call : calls.Call
+  call = calls.ack n (fullOf full) (rttOf rtt)
+
+  -- an ACK leaves pacing as it is
+  ack-pacing : calls.answer c call s .after .pacing ≡ s .pacing
+  unfolding calls.left calls.withRtt calls.after takeRtt acknowledge
+  ack-pacing =
+      answer-by c call s (λ (a : calls.Answer). a .after .pacing ≡ s .pacing)
+      (λ r e. cond-by (λ (t : rules.Sender). t .pacing ≡ s .pacing) (eqb (numberOf r) 11) (takeRtt (rttOf rtt) s) s (λ q. refl) (λ q. refl)) (λ e. refl)
+
+  refused-by : (r : Refusal) → tests.ackVerdict c n (fullOf full) (rttOf rtt) s ≡ Refused r → eqb (numberOf r) 11 ≡ false
+      → Answers g (acks (done.Refused (g .sender) r) (g .lost)) (calls.answer c call s)
+  unfolding calls.answer calls.verdictOf calls.answerBy calls.left
+  refused-by r e h = rw e (record { verdict = refl; said = refl; settings = refl; stands = rw h S })
+
+  taken : leb (2 ^ 31) n ≡ false → badRtt (rttOf rtt) ≡ false
+      → Answers g (ackedBy (g .sender) (update c (record { 0 = n }) full rtt (stateOf g))) (calls.answer c call s)
+  taken e b =
+      let l : Ack.Left = update c (record { 0 = n }) full rtt (stateOf g) in
+      let A = update-is (S .buffer) K (record { 0 = n }) (leb-false (2 ^ 31) n e) full rtt b in
+      let H = shown (g .sender) (l .answer) in
+      record {
+        verdict = H .verdict ∙ A .verdict;
+        said = H .said ∙ A .said;
+        settings = ap (λ (t : Sender). t .settings) (H .sender);
+        stands =
+            stands-as _ _ (g .ring) (l .lost) (calls.answer c call s .after) (H .sender)
+            (record { buffer = A .stands; pacing = S .pacing ∙ sym ack-pacing });
+      }
+
+  judged : judge (areasShort c (length (g .ring)) (length (g .lost))) g ≡ Accepted
+  judged = judge-accepted g s S K (areasShort c (length (g .ring)) (length (g .lost))) (areas-long g s S)
+
+  go : (a b : Bool) → leb (2 ^ 31) n ≡ a → badRtt (rttOf rtt) ≡ b
+      → Answers g
+      (answer (λ r. acks (done.Refused (g .sender) r) (g .lost)) (when a BadNumber (when b BadRtt Accepted))
+      (ackedBy (g .sender) (update c (record { 0 = n }) full rtt (stateOf g)))) (calls.answer c call s)
+  unfolding tests.ackVerdict
+  go true b e f = refused-by BadNumber (rw (facts-kept c s K, e)) refl
+  go false true e f = refused-by BadRtt (rw (facts-kept c s K, e, f)) refl
+  go false false e f = taken e f
+
+  pub ack-is : Answers g (ack g n full rtt) (calls.answer c call s)
+  unfolding ack ackVerdict
+  ack-is = rw judged (go (leb (2 ^ 31) n) (badRtt (rttOf rtt)) refl refl)
+
+  -- the full number is a u32
+  pub ack-kept : Given call → let l = ack g n full rtt in kept (books (senderAfter (l .answer)) (g .ring) (l .lost)) ≡ true
+  ack-kept h = next-kept g s S call h K _ (ap settingsOf (ack-is .settings)) (ack-is .stands)
+
+module _ (g : Books) (n : ℕ) (full : FullAck) (rtt : AckRtt) where
+  pub ack-short : areasShort (rulesOf g) (length (g .ring)) (length (g .lost)) ≡ true → ack g n full rtt ≡ acks (done.Refused (g .sender) BadStore) (g .lost)
+  unfolding ack ackVerdict
+  ack-short e = rw (e, judge-short g)
+
+  pub ack-broken : areasShort (rulesOf g) (length (g .ring)) (length (g .lost)) ≡ false → kept g ≡ false
+      → ack g n full rtt ≡ acks (done.Refused (g .sender) BadState) (g .lost)
+  unfolding ack ackVerdict
+  ack-broken e b = rw (e, judge-broken g b)

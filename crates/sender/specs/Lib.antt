@@ -1,0 +1,3 @@
+pub mod Acks
+pub mod Books
+pub mod Calls

@@ -1,0 +1,48 @@
+-- `sender_run::judge_run` meets its contract.
+-- Assumes nothing.
+use mathlib.Core.Path.{ap, _∙_}
+use Rattle.sender_run.specs.Runs.{roomFor}
+use Rattle.sender_run.specs.Runs.Laws.{judge-run-is}
+use borrow.Author.Needs.{needs}
+use Rattle.sender_run.proofs.judge_run.Statement.{statement}
+use Rattle.sender_run.proofs.judge_run.Tie as tie
+use Rattle.sender_run.proofs.judge_run.Reads as reads
+
+areas-short-requires : tie.Need-areas-short-requires
+areas-short-requires c κs = search needs
+
+judge-requires : tie.Need-judge-requires
+judge-requires c κs = search needs
+
+len-requires : tie.Need-len-requires
+len-requires c κs = search needs
+
+room-for-requires : tie.Need-room-for-requires
+room-for-requires c κs = search needs
+
+when-requires : tie.Need-when-requires
+when-requires c κs = search needs
+
+when-requires-2 : tie.Need-when-requires-2
+when-requires-2 c κs = search needs
+
+then-requires : tie.Need-then-requires
+then-requires c κs = search needs
+
+returns : tie.Need-returns
+returns c =
+    judge-run-is _ _ _ _ _ _ _ _ _ _ (c .before .before .before .before .before .before .areas-short .ensures) (c .before .before .before .before .before .judge .ensures)
+    (c .before .before .before .room-for .ensures ∙ ap (roomFor _) (c .before .before .before .before .len .ensures)) (c .before .before .when .ensures) (c .before .when2 .ensures) (c .then .ensures)
+
+pub judge-run-spec : {M : Type 1} → statement M
+judge-run-spec =
+    tie.close
+    (tie.spec
+    areas-short-requires
+    judge-requires
+    len-requires
+    room-for-requires
+    when-requires
+    when-requires-2
+    then-requires
+    returns)

@@ -1,0 +1,63 @@
+-- `sender_run::run` meets its contract.
+-- Assumes nothing.
+use mathlib.Core.Path.{sym, _∙_}
+use Rattle.refusals.specs.Verdict.Laws.{answer-refused, answer-accepted}
+use Rattle.sender_run.specs.Runs.{run}
+use Rattle.sender_run.specs.Runs.Laws.{runnable, run-done}
+use borrow.Author.Needs.{needs}
+use Rattle.sender_run.proofs.run.Statement.{statement}
+use Rattle.sender_run.proofs.run.Tie as tie
+use Rattle.sender_run.proofs.run.Reads as reads
+
+judge-run-requires : tie.Need-judge-run-requires
+judge-run-requires c κs = search needs
+
+enum-known-r : tie.Need-enum-known-r
+enum-known-r c = search needs
+
+enum-told : tie.Need-enum-told
+enum-told c = search needs
+
+next-snd-actions-requires : tie.Need-next-snd-actions-requires
+next-snd-actions-requires c κs = runnable _ _ _ _ (sym (c .before .before .before .before .before .before .before .judge-run .ensures) ∙ c .before .before .before .before .before .enum-told .given .1)
+
+same-length : tie.Need-same-length
+same-length c = search needs
+
+same-length-2 : tie.Need-same-length-2
+same-length-2 c = search needs
+
+returns : tie.Need-returns
+unfolding run
+returns c = answer-refused _ _ _ _ (c .before .before .before .judge-run .ensures) _ (c .before .r .given .1)
+
+same-length-3 : tie.Need-same-length-3
+same-length-3 c = search needs
+
+same-length-4 : tie.Need-same-length-4
+same-length-4 c = search needs
+
+same-length-5 : tie.Need-same-length-5
+same-length-5 c = search needs
+
+returns-2 : tie.Need-returns-2
+unfolding run
+returns-2 c =
+    run-done _ _ _ _ _ _ _ _ _ _ _ (c .before .before .before .before .before .before .before .next-snd-actions .ensures)
+    ∙ answer-accepted _ _ _ _ (c .before .before .before .before .before .before .before .before .before .before .before .before .before .before .before .judge-run .ensures) (c .before .before .before .before .before .before .before .before .before .before .before .before .before .enum-told .given .1)
+
+pub run-spec : {M : Type 1} → statement M
+run-spec =
+    tie.close
+    (tie.spec
+    judge-run-requires
+    enum-known-r
+    enum-told
+    next-snd-actions-requires
+    same-length
+    same-length-2
+    returns
+    same-length-3
+    same-length-4
+    same-length-5
+    returns-2)
