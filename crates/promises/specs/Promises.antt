@@ -8,6 +8,7 @@
 --   started          a fresh sender in lent areas
 -- Assumes nothing.
 pub mod Always
+pub mod Coincide
 pub mod Refusals
 use mathlib.Core.List.{List, [], _∷_, map}
 use Prim.Native.Nat.{ℕ, _/_, _^_, _<_}
