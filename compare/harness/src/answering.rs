@@ -66,6 +66,17 @@ impl Desk<'_> {
     }
 }
 
+/// The answers alone.
+pub fn plain(party: &Party, calls: &[Call]) -> String {
+    let mut desk = Desk {
+        party,
+        sender: None,
+        bench: party.bench(),
+    };
+    let line = |call: &Call| format!("{}\n", desk.call(call));
+    calls.iter().map(line).collect()
+}
+
 /// The answers, one after another, up to a panic; its message then.
 pub fn answers(party: &Party, calls: &[(usize, Call)]) -> (String, Option<String>) {
     let mut desk = Desk {

@@ -24,6 +24,8 @@ mod reach;
 mod record;
 mod rng;
 mod sample;
+mod session_record;
+mod sessions;
 mod shrink;
 mod stored;
 mod trial;
@@ -35,7 +37,7 @@ use model::Bend;
 
 const USAGE: &str =
     "compare short SECONDS [SEED] | full [SEED] | scripts | findings | gen SEED COUNT [AREA] | \
-                     sample SEED COUNT | sample-check | \
+                     sample SEED COUNT | sessions SEED COUNT | sample-check | \
                      script FILE [--copy unmodified|repaired|model|rattle] | answers FILE | bend NAME";
 
 /// A faulty script or command line.
@@ -58,7 +60,10 @@ fn main() -> ExitCode {
         ["bend", name] => judged(false, || modes::bend(name)),
         ["gen", seed, count] => generated("sender", seed, count),
         ["gen", seed, count, area] => generated(area, seed, count),
-        ["sample", seed, count] => sampled(seed, count),
+        ["sample", seed, count] => made(seed, count, |seed, count| {
+            sample::make(seed, count as usize)
+        }),
+        ["sessions", seed, count] => made(seed, count, sessions::make),
         ["sample-check"] => judged(false, || Ok(())),
         ["script", file] => script(file, "repaired"),
         ["script", file, "--copy", copy] => script(file, copy),
@@ -95,11 +100,11 @@ fn generated(area: &str, seed: &str, count: &str) -> ExitCode {
     }
 }
 
-fn sampled(seed: &str, count: &str) -> ExitCode {
+fn made(seed: &str, count: &str, make: impl Fn(u64, u64) -> Result<(), String>) -> ExitCode {
     let (Ok(seed), Ok(count)) = (seed.parse(), count.parse()) else {
         return faulty("SEED and COUNT are whole numbers");
     };
-    status(sample::make(seed, count).map_err(|text| println!("{text}")))
+    status(make(seed, count).map_err(|text| println!("{text}")))
 }
 
 fn faulty(text: &str) -> ExitCode {
@@ -119,7 +124,8 @@ fn judged(slow: bool, work: impl FnOnce() -> Result<(), ()>) -> ExitCode {
     let start = Instant::now();
     let outcome = compiled_files()
         .and_then(|()| stored::check(slow))
-        .and_then(|()| sample::check());
+        .and_then(|()| sample::check())
+        .and_then(|()| sessions::check());
     let outcome = match outcome {
         Ok(()) => work(),
         Err(text) => {

@@ -107,6 +107,14 @@ const OF_LEAVES: [Reach; 5] = [
     Reach::Refused8,
 ];
 
+/// What takes long messages: none of it is in the stored sessions.
+const OF_LONG: [Reach; 3] = [Reach::Refused5, Reach::Refused6, Reach::BufferLargest];
+
+fn of_small() -> impl Iterator<Item = usize> {
+    let long = OF_LONG.map(|reach| reach as usize);
+    (0..Reach::TimerSeveral as usize).filter(move |index| !long.contains(index))
+}
+
 impl Reach {
     /// The reach of a refusal by number.
     pub fn refused(number: u8) -> Option<Reach> {
@@ -156,6 +164,17 @@ impl Reached {
         let refusals = OF_LEAVES.iter().map(|reach| *reach as usize);
         let inside = Reach::TimerSeveral as usize..Reach::PacingHeld as usize;
         self.print_some(&mut refusals.chain(inside))
+    }
+
+    /// The same of the sender's scripts, but for what takes a message of more
+    /// than 512 bytes.
+    pub fn print_sender(&self) -> usize {
+        self.print_some(&mut of_small())
+    }
+
+    /// How many of these were reached.
+    pub fn kinds(&self) -> usize {
+        of_small().filter(|index| self.0[*index] > 0).count()
     }
 
     /// The numbers that are held outside the domain.

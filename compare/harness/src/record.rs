@@ -8,9 +8,9 @@ use crate::call::{LeafCall, CHECKS};
 
 pub const SIZE: usize = 64;
 
-type Numbers = [u64; 8];
+pub type Numbers = [u64; 8];
 
-fn numbers(given: &[u64]) -> Numbers {
+pub fn numbers(given: &[u64]) -> Numbers {
     let mut all = [0; 8];
     all[..given.len()].copy_from_slice(given);
     all

@@ -20,6 +20,7 @@ use crate::{
     record,
 };
 
+const FOLDER: &str = "SRT_SAMPLE";
 /// A message that splits into more packets makes too long a line.
 const MOST_PACKETS: u32 = 40;
 /// From here on document 01 holds the period and the Rust doesn't.
@@ -27,10 +28,45 @@ const HELD: u64 = 1_000_000_000_001;
 /// Of each generated script the first so many calls, so that many are begun.
 const SCRIPT: usize = 24;
 
-fn folder() -> Result<PathBuf, String> {
-    env::var("SRT_SAMPLE")
-        .map(PathBuf::from)
-        .map_err(|_| "SRT_SAMPLE is not set".to_string())
+/// A file of the folder that the variable names.
+fn path(variable: &str, name: &str) -> Result<PathBuf, String> {
+    env::var(variable)
+        .map(|folder| PathBuf::from(folder).join(name))
+        .map_err(|_| format!("{variable} is not set"))
+}
+
+/// Writes a program's calls and their answers.
+pub fn put(variable: &str, records: &[u8], lines: &str) -> Result<(), String> {
+    for (name, bytes) in [("stdin", records), ("stdout", lines.as_bytes())] {
+        let path = path(variable, name)?;
+        fs::write(&path, bytes).map_err(|fault| format!("{}: {fault}", path.display()))?;
+    }
+    Ok(())
+}
+
+fn get(variable: &str, name: &str) -> Result<Vec<u8>, String> {
+    let path = path(variable, name)?;
+    fs::read(&path).map_err(|fault| format!("{}: {fault}", path.display()))
+}
+
+/// The calls that a program has stored.
+pub fn stored<T>(variable: &str, read: impl Fn(&[u8]) -> Option<T>) -> Result<Vec<T>, String> {
+    let records = get(variable, "stdin")?;
+    let call = |(index, bytes)| read(bytes).ok_or(format!("stdin: record {index} is no call"));
+    let records = records.chunks(record::SIZE).enumerate();
+    records.map(call).collect()
+}
+
+/// Holds the answers that a program has stored against those given now.
+pub fn same(variable: &str, what: &str, now: &str) -> Result<(), String> {
+    let stored = get(variable, "stdout")?;
+    if now.as_bytes() == stored {
+        return Ok(());
+    }
+    let stored = String::from_utf8_lossy(&stored);
+    let at = now.lines().zip(stored.lines()).position(|(a, b)| a != b);
+    let at = at.map_or(0, |at| at + 1);
+    Err(format!("DIFFERENCE from the stored {what} at line {at}"))
 }
 
 fn timer(t: TimerState) -> String {
@@ -185,13 +221,7 @@ pub fn make(seed: u64, count: usize) -> Result<(), String> {
     let lines = lines(&calls).ok_or("a call of the sample has no line")?;
     let records: Option<Vec<Vec<u8>>> = calls.iter().map(record::write).collect();
     let records = records.ok_or("a call of the sample has no record")?;
-    let folder = folder()?;
-    let put = |name: &str, bytes: &[u8]| {
-        let path = folder.join(name);
-        fs::write(&path, bytes).map_err(|fault| format!("{}: {fault}", path.display()))
-    };
-    put("stdin", &records.concat())?;
-    put("stdout", lines.as_bytes())?;
+    put(FOLDER, &records.concat(), &lines)?;
     println!(
         "sample: {} calls, answered by the repaired copy",
         calls.len()
@@ -201,26 +231,9 @@ pub fn make(seed: u64, count: usize) -> Result<(), String> {
 
 /// Holds the stored answers against what the Rust answers now.
 pub fn check() -> Result<(), String> {
-    let folder = folder()?;
-    let get = |name: &str| {
-        let path = folder.join(name);
-        fs::read(&path).map_err(|fault| format!("{}: {fault}", path.display()))
-    };
-    let (records, stored) = (get("stdin")?, get("stdout")?);
-    let mut calls = Vec::new();
-    for (index, bytes) in records.chunks(record::SIZE).enumerate() {
-        let call = record::read(bytes).ok_or(format!("stdin: record {index} is no call"))?;
-        calls.push(call);
-    }
+    let calls = stored(FOLDER, record::read)?;
     let now = lines(&calls).ok_or("stdin: a call has no line")?;
-    if now.as_bytes() != stored {
-        let stored = String::from_utf8_lossy(&stored).into_owned();
-        let at = now.lines().zip(stored.lines()).position(|(a, b)| a != b);
-        return Err(format!(
-            "DIFFERENCE from the stored sample at line {}",
-            at.map_or(0, |at| at + 1)
-        ));
-    }
+    same(FOLDER, "sample", &now)?;
     println!("stored sample answered as stored: {} calls", calls.len());
     Ok(())
 }

@@ -1,0 +1,80 @@
+// A sender is made, and its message counter set.
+use crate::Desk;
+use crate::record::Record;
+use crate::record::high;
+use crate::record::low;
+use crate::show;
+use buffer::SendBuffer;
+use buffer::Settings;
+use numbers::MsgNumber;
+use pacing::options::LiveBandwidthMode;
+use sender::Made;
+use sender::Sender;
+
+fn settings(r: Record) -> Settings {
+    Settings {
+        first: low(r.a),
+        size: high(r.a),
+        buffer: low(r.b),
+        flow: high(r.b),
+        latency: low(r.c),
+        overhead: high(r.c),
+        socket: low(r.d),
+    }
+}
+
+fn mode(which: u32, rate: u64, overhead: u64) -> LiveBandwidthMode {
+    match which {
+        0 => LiveBandwidthMode::Input { rate, overhead },
+        1 => LiveBandwidthMode::Estimated {
+            expected: rate,
+            overhead,
+        },
+        2 => LiveBandwidthMode::Max(rate),
+        _ => LiveBandwidthMode::Unlimited,
+    }
+}
+
+pub(crate) fn new(r: Record) -> Desk {
+    match Sender::new(settings(r), mode(high(r.d), r.e, r.f)) {
+        Made::Refused(why) => {
+            show::refused(why);
+            Desk::Nothing
+        }
+        Made::Ready(s) => {
+            show::text(b"done");
+            Desk::At(s)
+        }
+    }
+}
+
+// The same books with another message number.
+fn with(b: SendBuffer, message: MsgNumber) -> SendBuffer {
+    let ring = b.ring;
+    let front = b.front;
+    let rtt = b.rtt;
+    let flushed = b.flushed;
+    SendBuffer {
+        ring,
+        front,
+        sent: b.sent,
+        lost: b.lost,
+        bytes: b.bytes,
+        rtt,
+        message,
+        expected: b.expected,
+        flushed,
+    }
+}
+
+// No call of the product: the script sets the message counter, so that its wrap is reached.
+pub(crate) fn preset(s: Sender, number: u32) -> Sender {
+    let settings = s.settings;
+    let pacing = s.pacing;
+    show::text(b"done");
+    Sender {
+        settings,
+        buffer: with(s.buffer, MsgNumber(number)),
+        pacing,
+    }
+}
