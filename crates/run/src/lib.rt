@@ -18,10 +18,20 @@ pub struct Ran {
 }
 
 // The books after a turn, how many records there are then, and whether it ends the run.
-struct Progress {
+struct Step {
     buffer: SendBuffer,
     count: usize,
     ends: bool,
+}
+
+fn progress(buffer: SendBuffer, count: usize, ends: bool) -> Step
+    ensures { λ r. ⌜ r ≡ record { buffer = buffer; count = count; ends = ends } ⌝ }
+{
+    Step {
+        buffer,
+        count,
+        ends,
+    }
 }
 
 // The first of rules 2 to 7 that applies.
@@ -34,51 +44,46 @@ fn turn(
     lost: &mut [u32],
     out: &mut [u8],
     n: usize,
-) -> Progress
+) -> Step
     requires { ⌜ Turning (settingsOf c) «ts_now» (state b (now ring) (now lost)) n (now out) ⌝ }
     ensures { λ r. ⌜ Done (settingsOf c) «ts_now» draining (state b (now (ring .entry)) (now (lost .entry))) n (now (out .entry)) (state (r .buffer) (now (ring .exit)) (now (lost .exit))) (r .count) (r .ends) (now (out .exit)) ⌝ }
 {
     match choice::first_rule(b, c, ts_now, draining, ring) {
-        Rule::Loss => Progress {
-            buffer: sending::send_next_lost_packet(b, ts_now, ring, lost, out, n),
-            count: n + 1,
-            ends: false,
-        },
-        Rule::Due(i) => Progress {
-            buffer: sending::send_next_rto_packet(b, ts_now, i, ring, out, n),
-            count: n + 1,
-            ends: false,
-        },
+        Rule::Loss => {
+            let left = sending::send_next_lost_packet(b, ts_now, ring, lost, out, n);
+            progress(left, n + 1, false)
+        }
+        Rule::Due(i) => {
+            let left = sending::send_next_rto_packet(b, ts_now, i, ring, out, n);
+            progress(left, n + 1, false)
+        }
         Rule::Window => {
             sending::wait_for_ack(b, out, n);
-            Progress {
-                buffer: b,
-                count: n + 1,
-                ends: true,
-            }
+            progress(b, n + 1, true)
         }
         Rule::Unsent => {
             let w = sending::send_unsent(b, ts_now, ring, out, n);
-            let buffer = w.buffer;
-            Progress {
-                buffer,
-                count: w.count,
-                ends: false,
-            }
+            progress(w.buffer, w.count, false)
         }
-        Rule::Flush => Progress {
-            buffer: sending::flush_on_close(b, c, ring, lost, out, n),
-            count: n + 1,
-            ends: false,
-        },
+        Rule::Flush => {
+            let left = sending::flush_on_close(b, c, ring, lost, out, n);
+            progress(left, n + 1, false)
+        }
         Rule::Input => {
             sending::wait_for_input(b, out, n);
-            Progress {
-                buffer: b,
-                count: n + 1,
-                ends: true,
-            }
+            progress(b, n + 1, true)
         }
+    }
+}
+
+// A run without budget.
+fn nothing(buffer: SendBuffer) -> Ran
+    ensures { λ r. ⌜ r ≡ record { buffer = buffer; records = 0; left = 0 } ⌝ }
+{
+    Ran {
+        buffer,
+        records: 0,
+        left: 0,
     }
 }
 
@@ -96,23 +101,16 @@ fn sweep(
     ring: &[u64],
     lost: &mut [u32],
     out: &mut [u8],
-) -> Progress
+) -> Step
     requires { ⌜ Turning (settingsOf c) «ts_now» (state b (now ring) (now lost)) 0 (now out) ⌝ }
     ensures { λ r. ⌜ Swept (settingsOf c) «ts_now» (state b (now (ring .entry)) (now (lost .entry))) (now (out .entry)) (state (r .buffer) (now (ring .entry)) (now (lost .exit))) (r .count) (now (out .exit)) ⌝ }
 {
     let k = choice::late_packets(b, c, ts_now, ring);
     if k < 1 {
-        return Progress {
-            buffer: b,
-            count: 0,
-            ends: false,
-        };
+        return progress(b, 0, false);
     }
-    Progress {
-        buffer: sending::drop_too_late_packets(b, k, lost, out, 0),
-        count: 1,
-        ends: false,
-    }
+    let left = sending::drop_too_late_packets(b, k, lost, out, 0);
+    progress(left, 1, false)
 }
 
 // A run: what to send, to drop and to wait for, as records of 24 bytes in `out`. While budget remains, the first rule that applies.
@@ -131,11 +129,7 @@ pub fn next_snd_actions(
         ≡ run (settingsOf c) «ts_now» draining budget (state b (now (ring .entry)) (now (lost .entry))) (now (out .entry)) ⌝ }
 {
     if budget < 1 {
-        return Ran {
-            buffer: b,
-            records: 0,
-            left: 0,
-        };
+        return nothing(b);
     }
     let first = sweep(b, c, ts_now, ring, lost, out);
     let mut here = first.buffer;

@@ -23,7 +23,10 @@ abbrev μ-loop : tie.MeasureT-loop
 μ-loop c ts-now budget draining ring₀ lost₀ out₀ here₀ n₀ left₀ ring lost out here n left = left
 
 returns : tie.Need-returns Inv-loop μ-loop
-returns c = run-none _ _ _ _ _ _ (c .if1 .taken)
+returns c = rw (c .nothing .ensures) (run-none _ _ _ _ _ _ (c .before .if1 .taken))
+
+nothing-requires : tie.Need-nothing-requires Inv-loop μ-loop
+nothing-requires c κs = search needs
 
 sweep-requires : tie.Need-sweep-requires Inv-loop μ-loop
 sweep-requires c κs =
@@ -87,6 +90,7 @@ next-snd-actions-spec =
     (tie.spec
     Inv-loop
     μ-loop
+    nothing-requires
     returns
     sweep-requires
     loop-holds
