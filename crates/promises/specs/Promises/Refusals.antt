@@ -1,20 +1,26 @@
 -- "A refusal changes nothing": of any sender and areas at all, damaged ones too. Document 01: "All stays as before; 11 alone keeps a new RTT."
 --   verdictIn k w        what a call's tests come to
---   refused-stays        a refused call leaves the sender, every word of the lent areas and the store as they were; 11 but for the RTT
+--   refused-stays        a refused call leaves the sender, every word of the lent areas and the store as they were; 11 apart
+--   withRtt, stale-keeps 11 keeps the round-trip time that the ACK brought, and all else is as it was
+--   refused-list         and a refused call leaves every word of its lent list
 -- Assumes nothing.
 use mathlib.Core.Path.{_≡_, refl, sym, ap, _∙_}
-use mathlib.Core.Bool.{Bool, true, false, cond}
+use mathlib.Core.Bool.{Bool, true, false, not, cond}
 use mathlib.Core.List.{List}
-use Prim.Native.Nat.{ℕ}
-use lib.Dec.{eqb}
+use Prim.Native.Nat.{ℕ, _^_}
+use native.Mathlib.Omega.{arith}
+use lib.Dec.{eqb, leb}
 use lib.ListN.{length}
 use borrow.Author.Tests.{ne-eqb}
 use Rattle.refusals.specs.declared.Refusal.{Refusal}
+use Rattle.refusals.specs.declared.Refusal.the-variants.{BadStore, BadState, BadNumber, BadRtt}
 use Rattle.refusals.specs.declared.Verdict.{Verdict}
 use Rattle.refusals.specs.declared.Verdict.the-variants.{Accepted, Refused}
 use Rattle.refusals.specs.Table.{numberOf}
-use Rattle.refusals.specs.Verdict.{answer}
-use Rattle.sender.specs.Books.{Books, books, stateOf, rulesOf}
+use Rattle.refusals.specs.Verdict.{when, answer}
+use Rattle.rules.specs.Refusals.{badRtt}
+use Rattle.sender.specs.Books.{Books, books, stateOf, rulesOf, areasShort, judge}
+use Rattle.sender.specs.Books.{kept as keptBooks}
 use Rattle.sender.specs.Calls as Messages
 use Rattle.sender.specs.Calls.Stands as Message
 use Rattle.sender.specs.Acks as Acks
@@ -149,6 +155,61 @@ module _ (w : World) (r : Refusal) where
           ∙ ap (λ (m : List ℕ). record { books = books (g .sender) (g .ring) m; store = w .store }) (k .lost)
       go (Refused q) e = refl
 
+  -- the tests before an ACK reaches the buffer give no 11
+  early-not-11 : (a b d f : Bool) (q : Refusal)
+      → Messages.then (when a BadStore (when b BadState Accepted)) (when d BadNumber (when f BadRtt Accepted)) ≡ Refused q
+      → numberOf q ≡ 11
+      → ⊥
+  early-not-11 true b d f q e n = let z : numberOf q ≡ 2 = cc in omega (arith, z, n)
+  early-not-11 false true d f q e n = let z : numberOf q ≡ 3 = cc in omega (arith, z, n)
+  early-not-11 false false true f q e n = let z : numberOf q ≡ 7 = cc in omega (arith, z, n)
+  early-not-11 false false false true q e n = let z : numberOf q ≡ 8 = cc in omega (arith, z, n)
+  early-not-11 false false false false q e n = let z : _≡_ {A = ℕ} 0 1 = cc in omega arith
+
+-- the same world with the round-trip time that an ACK brought
+abbrev pub withRtt : AckRtt → World → World
+withRtt rtt w =
+    let s = w .books .sender in
+    record {
+      books =
+          books (Messages.senderOf (s .settings) (AckOf.takeRtt rtt (stateOf (w .books)) .books) (s .pacing)) (w .books .ring) (w .books .lost);
+      store = w .store;
+    }
+
+-- 11 keeps the round-trip time that the ACK brought, and nothing else
+pub stale-keeps : (w : World) (r : Refusal) (n : ℕ) (full : FullAck) (rtt : AckRtt) → verdictIn (ack n full rtt) w ≡ Refused r → numberOf r ≡ 11
+    → after (ack n full rtt) w ≡ withRtt rtt w
+unfolding verdictIn after Acks.ack Acks.ackVerdict judge
+stale-keeps w r n full rtt e₀ is11 = go (Acks.ackVerdict (w .books) n rtt) refl e₀
+  where
+    l : AckOf.Left
+    l = AckOf.update (rulesOf (w .books)) (record { 0 = n }) full rtt (stateOf (w .books))
+
+    short : Bool
+    short = areasShort (rulesOf (w .books)) (length (w .books .ring)) (length (w .books .lost))
+
+    early : (q : Refusal) → Acks.ackVerdict (w .books) n rtt ≡ Refused q → numberOf q ≡ 11 → ⊥
+    early q d = early-not-11 w r short (not (keptBooks (w .books))) (leb (2 ^ 31) n) (badRtt (AckOf.rttOf rtt)) q d
+
+    go : (v : Verdict) → Acks.ackVerdict (w .books) n rtt ≡ v
+        → Ack.verdictOf (answer (λ q. Acks.acks (acknowledged-as.Refused (w .books .sender) q) (w .books .lost)) v (Acks.ackedBy (w .books .sender) l) .answer) ≡ Refused r
+        → record {
+          books =
+              books (Ack.senderAfter (answer (λ q. Acks.acks (acknowledged-as.Refused (w .books .sender) q) (w .books .lost)) v (Acks.ackedBy (w .books .sender) l) .answer))
+              (w .books .ring) (answer (λ q. Acks.acks (acknowledged-as.Refused (w .books .sender) q) (w .books .lost)) v (Acks.ackedBy (w .books .sender) l) .lost);
+          store = w .store;
+        } ≡ withRtt rtt w
+    go Accepted d e =
+        let g : Books = w .books in
+        let x = shown w r (l .answer) in
+        let k = refused-keeps (rulesOf g) (record { 0 = n }) full rtt (stateOf g) r (sym (x .0) ∙ e) in
+        let same : AckOf.booksOf (l .answer) ≡ AckOf.takeRtt rtt (stateOf g) .books = k .books ∙ rw is11 in
+        ap (λ (s : Sender). record { books = books s (g .ring) (l .lost); store = w .store }) (x .1 ∙ ap (λ (b : SendBuffer). Messages.senderOf (g .sender .settings) b (g .sender .pacing)) same)
+        ∙ ap (λ (m : List ℕ). record { books = books (Messages.senderOf (g .sender .settings) (AckOf.takeRtt rtt (stateOf g) .books) (g .sender .pacing)) (g .ring) m; store = w .store }) (k .lost)
+    go (Refused q) d e =
+        let same : numberOf q ≡ numberOf r = cc in
+        absurd (early q d (same ∙ is11))
+
 pub refused-stays : (k : Call) (w : World) (r : Refusal) → verdictIn k w ≡ Refused r → (numberOf r ≡ 11 → ⊥) → after k w ≡ w
 unfolding after
 refused-stays (message time now bytes) w r e n = message-stays w r time now bytes e
@@ -156,3 +217,25 @@ refused-stays (ack m full rtt) w r e n = ack-stays w r m full rtt e n
 refused-stays (nak words list) w r e n = nak-stays w r words list e
 refused-stays (run now p draining list) w r e n = run-stays w r now p draining list e
 refused-stays (payload m) w r e n = refl
+
+-- the lent list of a refused call, too
+pub refused-list : (w : World) (r : Refusal)
+    → ((words list : List ℕ) → verdictIn (nak words list) w ≡ Refused r → Naks.nak (w .books) words list .out ≡ list)
+    × ((now p : ℕ) (draining : Bool) (list : List ℕ) → verdictIn (run now p draining list) w ≡ Refused r → Runs.run (w .books) now p draining list .out ≡ list)
+unfolding verdictIn Naks.nak Runs.run
+refused-list w r = (
+  λ words list. go (Report.add (w .books .sender .buffer) words (w .books .lost) list) list (Naks.nakVerdict (w .books) words (length list)),
+  λ now p draining list. on (Run₀.run (rulesOf (w .books)) now draining p (stateOf (w .books)) list) list (Runs.runVerdict (w .books) now p (length list)),
+)
+  where
+    go : (a : Report.Left) (list : List ℕ) (v : Verdict)
+        → Nak.verdictOf (answer (λ q. Naks.naks (reported.Refused q) (w .books .lost) list) v (Naks.nakBy (w .books .sender) a) .answer) ≡ Refused r
+        → answer (λ q. Naks.naks (reported.Refused q) (w .books .lost) list) v (Naks.nakBy (w .books .sender) a) .out ≡ list
+    go a list Accepted e = cc
+    go a list (Refused q) e = refl
+
+    on : (a : Run₀.World) (list : List ℕ) (v : Verdict)
+        → Run.verdictOf (answer (λ q. Runs.runs (ran.Refused q) (w .books .ring) (w .books .lost) list) v (Runs.ranBy (w .books .sender) a) .answer) ≡ Refused r
+        → answer (λ q. Runs.runs (ran.Refused q) (w .books .ring) (w .books .lost) list) v (Runs.ranBy (w .books .sender) a) .out ≡ list
+    on a list Accepted e = cc
+    on a list (Refused q) e = refl
