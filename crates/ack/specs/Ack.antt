@@ -7,7 +7,7 @@
 --   judge len front sent n    refusals 9 and 10, over the number of packets, the front's number and how many are sent; judgeOn   on the books
 --   takeRtt rtt st            the round-trip time taken over
 --   acknowledged c d full st  d packets acknowledged
---   Left, left                the call's answer, and the loss area at its end; the ring's words are only read
+--   Left, left                the call's answer, and the loss area, which is only read, as the ring is
 --   refused, done, update     a refused ACK, an accepted one; the call
 --   verdictOf, booksOf, saidOf   an answer's verdict, its books, and what it says, as the rules have them
 -- Assumes nothing.

@@ -120,10 +120,10 @@ fn acknowledge(
     d: u32,
     full_ack: FullAck,
     ring: &[u64],
-    lost: &mut [u32],
+    lost: &[u32],
 ) -> Acked
     requires { ⌜ Acceptable (settingsOf c) (state b (now ring) (now lost)) d ⌝ }
-    ensures { λ r. ⌜ left r (now (lost .exit)) ≡ done (settingsOf c) d «full_ack» (state b (now (ring .entry)) (now (lost .entry))) ⌝ }
+    ensures { λ r. ⌜ left r (now (lost .entry)) ≡ done (settingsOf c) d «full_ack» (state b (now (ring .entry)) (now (lost .entry))) ⌝ }
 {
     let gone = b.wire_sizes(c, ring, d as usize);
     let after = b.remove(lost, d as usize, b.bytes - gone);
@@ -140,7 +140,7 @@ fn acknowledge(
 }
 
 // Takes an ACK of `ack_number`: from the first buffered number to next unsent, both included. The round-trip time that it brings is kept
-// even where its full number is stale; any other refusal leaves the books as they were, and none touches a lent area.
+// even where its full number is stale; any other refusal leaves the books as they were. The lent areas are only read.
 pub fn update_largest_acked_seq_number(
     b: SendBuffer,
     c: Settings,
@@ -148,10 +148,10 @@ pub fn update_largest_acked_seq_number(
     full_ack: FullAck,
     rtt: AckRtt,
     ring: &[u64],
-    lost: &mut [u32],
+    lost: &[u32],
 ) -> Acked
     requires { ⌜ Asked (settingsOf c) (state b (now ring) (now lost)) («ack_number» .0) rtt ⌝ }
-    ensures { λ r. ⌜ left r (now (lost .exit)) ≡ update (settingsOf c) «ack_number» «full_ack» rtt (state b (now (ring .entry)) (now (lost .entry))) ⌝ }
+    ensures { λ r. ⌜ left r (now (lost .entry)) ≡ update (settingsOf c) «ack_number» «full_ack» rtt (state b (now (ring .entry)) (now (lost .entry))) ⌝ }
 {
     match judge(b, ack_number) {
         Verdict::Refused(r) => Acked::Refused(b, r),

@@ -6,7 +6,7 @@
 --   packetOf e       the packet that an entry stands for
 --   packetsOf r xs   the packets of a ring over the words xs, from the front
 --   view st          the buffered packets
---   lostOf st        the loss list, as it stands in its area
+--   lostOf st        the loss list, as it stands in its area: farthest first
 --   put b ..         other places, front, sent count, loss count and byte count
 -- Assumes nothing.
 pub mod Facts

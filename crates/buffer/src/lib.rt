@@ -17,6 +17,7 @@ use ring::Ring;
 use rtt::Rtt;
 
 // The seven settings of a sender, in document 01's order.
+#[repr(C)]
 pub struct Settings {
     pub first: u32,
     pub size: u32,
@@ -197,16 +198,16 @@ impl SendBuffer {
     }
 
     // `k` packets go from the front, from the loss list too, and next unsent moves past them; the byte count becomes `bytes`.
-    pub fn remove(self, lost: &mut [u32], k: usize, bytes: u64) -> SendBuffer
+    pub fn remove(self, lost: &[u32], k: usize, bytes: u64) -> SendBuffer
         requires { ⌜ Removable self (now lost) k ⌝ }
-        ensures { λ r. ⌜ Removed self (now (lost .entry)) k bytes r (now (lost .exit)) ⌝ }
+        ensures { λ r. ⌜ Removed self (now (lost .entry)) k bytes r ⌝ }
     {
         let ring = self.ring;
         let front = self.front;
         let to = front.plus(k as u32);
-        let gone = losses::remove_below(lost, self.lost, front, to);
+        let listed = losses::remove_below(lost, self.lost, front, to);
         let rest = ring.remove_front(k);
         let sent = less(self.sent, k as u32);
-        self.put(rest, to, sent, self.lost - gone, bytes)
+        self.put(rest, to, sent, listed, bytes)
     }
 }

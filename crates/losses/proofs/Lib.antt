@@ -1,4 +1,2 @@
 pub mod Entering
 pub mod Gap
-pub mod Kept
-pub mod Shifted

@@ -1,16 +1,17 @@
 // The loss list: a sorted array in the first `len` elements of a lent area. Document 01, "Loss words", "ACK", "Run" 2 and "Book rules"; what
-// the Rust's `SendBuffer` keeps in its `lost_list`, a `BTreeSet`. Order is by distance from the front.
+// the Rust's `SendBuffer` keeps in its `lost_list`, a `BTreeSet`. Order is by distance from the front, farthest first, so that what is
+// resent or acknowledged goes from the end: the list is shorter then, and no entry moves.
 ghost use mathlib.Core.Path.{_≡_};
 ghost use mathlib.Core.List.{_∷_, _++_};
-ghost use Prim.Native.Nat.{_+_, _≤_, _<_};
-ghost use lib.ListN.{length, take, drop};
+ghost use Prim.Native.Nat.{_+_, _-_, _≤_, _<_};
+ghost use lib.ListN.{length, take, drop, getD};
 ghost use lib.Seq.{slice};
 ghost use Rattle.numbers.specs.Modular.{seqs, dist};
-ghost use Rattle.losses.specs.LossList.{insert, entered, inOrder, keeps};
-ghost use Rattle.losses.specs.LossList.Laws.{Fits, Left, Filled, Popped, Removed, Placed};
+ghost use Rattle.losses.specs.LossList.{insert, entered, staying, inOrder, keeps};
+ghost use Rattle.losses.specs.LossList.Laws.{Fits, Left, Filled, Placed};
 use numbers::SeqNumber;
 
-// How many entries stand nearer the front than `x`.
+// How many entries lie farther from the front than `x`.
 fn place_of(list: &[u32], len: usize, front: SeqNumber, x: SeqNumber) -> usize
     requires { ⌜ len ≤ length (now list) ⌝ }
     ensures { λ r. ⌜ Placed (dist seqs (front .0)) (dist seqs (front .0) (x .0)) (now (list .entry)) len r ⌝ }
@@ -19,7 +20,7 @@ fn place_of(list: &[u32], len: usize, front: SeqNumber, x: SeqNumber) -> usize
     let mut i = 0;
     while i < len {
         let y = list[i];
-        if k <= front.distance(SeqNumber(y)) {
+        if front.distance(SeqNumber(y)) <= k {
             return i;
         }
         i += 1;
@@ -70,43 +71,35 @@ pub fn enter(list: &mut [u32], len: usize, front: SeqNumber, first: SeqNumber, c
     n
 }
 
-// Takes the number nearest the front out of the list, which has one entry less then.
-pub fn pop(list: &mut [u32], len: usize) -> SeqNumber
+// The number nearest the front, the last of the list, which is one shorter without it.
+pub fn nearest(list: &[u32], len: usize) -> SeqNumber
     requires { ⌜ Filled len (now list) ⌝ }
-    ensures { λ r. ⌜ Popped (r .0) (now (list .exit)) len (now (list .entry)) ⌝ }
+    ensures { λ r. ⌜ r .0 ≡ getD (now (list .entry)) (len - 1) 0 ⌝ }
 {
-    let first = list[0];
-    let mut i = 0;
-    while i + 1 < len {
-        list[i] = list[i + 1];
-        i += 1;
-    }
-    SeqNumber(first)
+    SeqNumber(list[len - 1])
 }
 
-// Removes the numbers nearer the front than `x`. The answer is how many those are.
-pub fn remove_below(list: &mut [u32], len: usize, front: SeqNumber, x: SeqNumber) -> usize
+// Removes the numbers nearer the front than `x`, which stand at the end. The answer is the list's new length.
+pub fn remove_below(list: &[u32], len: usize, front: SeqNumber, x: SeqNumber) -> usize
     requires { ⌜ len ≤ length (now list) ⌝ }
-    ensures { λ r. ⌜ Removed (dist seqs (front .0)) (dist seqs (front .0) (x .0)) r (now (list .exit)) len (now (list .entry)) ⌝ }
+    ensures { λ r. ⌜ r ≡ staying (dist seqs (front .0)) (dist seqs (front .0) (x .0)) len (now (list .entry)) ⌝ }
 {
     let k = front.distance(x);
-    let mut i = 0;
-    let mut j = 0;
-    while i < len {
-        let y = list[i];
+    let mut n = len;
+    while 0 < n {
+        let y = list[n - 1];
         if k <= front.distance(SeqNumber(y)) {
-            list[j] = y;
-            j += 1;
+            return n;
         }
-        i += 1;
+        n -= 1;
     }
-    len - j
+    n
 }
 
-fn in_order(low: u32, sent: u32, k: u32, y: u32) -> bool
-    ensures { λ r. ⌜ r ≡ inOrder low sent k y ⌝ }
+fn in_order(high: u32, k: u32, y: u32) -> bool
+    ensures { λ r. ⌜ r ≡ inOrder high k y ⌝ }
 {
-    y < 0x8000_0000 && (low <= k && k < sent)
+    y < 0x8000_0000 && k < high
 }
 
 // Whether the first `len` elements of any area keep the book rules of a loss list: `sent` packets are sent, from the front on.
@@ -116,15 +109,15 @@ pub fn keeps(list: &[u32], len: usize, front: SeqNumber, sent: u32) -> bool
     if list.len() < len {
         return false;
     }
-    let mut low: u32 = 0;
+    let mut high = sent;
     let mut i = 0;
     while i < len {
         let y = list[i];
         let k = front.distance(SeqNumber(y));
-        if !in_order(low, sent, k, y) {
+        if !in_order(high, k, y) {
             return false;
         }
-        low = k + 1;
+        high = k;
         i += 1;
     }
     true

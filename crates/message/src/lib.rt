@@ -50,9 +50,9 @@ fn entry_of(time: u64, number: MsgNumber, piece: Piece) -> Entry
 }
 
 // Where the buffer is full the front packet goes, from the loss list too, and is counted.
-fn make_room(p: Pushed, c: Settings, ring: &[u64], lost: &mut [u32]) -> Pushed
+fn make_room(p: Pushed, c: Settings, ring: &[u64], lost: &[u32]) -> Pushed
     requires { ⌜ Roomable (settingsOf c) (work p (now ring) (now lost)) ⌝ }
-    ensures { λ r. ⌜ work r (now (ring .entry)) (now (lost .exit))
+    ensures { λ r. ⌜ work r (now (ring .entry)) (now (lost .entry))
         ≡ roomed (settingsOf c) (work p (now (ring .entry)) (now (lost .entry))) ⌝ }
 {
     let b = p.buffer;
@@ -107,11 +107,11 @@ fn push_data(
     payload: &[u8],
     n: usize,
     ring: &mut [u64],
-    lost: &mut [u32],
+    lost: &[u32],
     store: &mut [u8],
 ) -> Pushed
     requires { ⌜ Next (settingsOf c) time (number .0) (now payload) n (world (work p (now ring) (now lost)) (now store)) ⌝ }
-    ensures { λ r. ⌜ world (work r (now (ring .exit)) (now (lost .exit))) (now (store .exit))
+    ensures { λ r. ⌜ world (work r (now (ring .exit)) (now (lost .entry))) (now (store .exit))
         ≡ pushOne (settingsOf c) time (number .0) (now (payload .entry)) (world (work p (now (ring .entry)) (now (lost .entry))) (now (store .entry))) ⌝ }
 {
     let size = c.size as usize;
@@ -157,11 +157,11 @@ pub fn push_message(
     time: u64,
     payload: &[u8],
     ring: &mut [u64],
-    lost: &mut [u32],
+    lost: &[u32],
     store: &mut [u8],
 ) -> Pushed
     requires { ⌜ Sendable (settingsOf c) (state b (now ring) (now lost)) time (now payload) (now store) ⌝ }
-    ensures { λ r. ⌜ world (work r (now (ring .exit)) (now (lost .exit))) (now (store .exit))
+    ensures { λ r. ⌜ world (work r (now (ring .exit)) (now (lost .entry))) (now (store .exit))
         ≡ message (settingsOf c) time (now (payload .entry)) (state b (now (ring .entry)) (now (lost .entry))) (now (store .entry)) ⌝ }
 {
     let n = encapsulate::count(payload.len(), c.size as usize);

@@ -41,12 +41,12 @@ fn turn(
     ts_now: u64,
     draining: bool,
     ring: &mut [u64],
-    lost: &mut [u32],
+    lost: &[u32],
     out: &mut [u8],
     n: usize,
 ) -> Step
     requires { ⌜ Turning (settingsOf c) «ts_now» (state b (now ring) (now lost)) n (now out) ⌝ }
-    ensures { λ r. ⌜ Done (settingsOf c) «ts_now» draining (state b (now (ring .entry)) (now (lost .entry))) n (now (out .entry)) (state (r .buffer) (now (ring .exit)) (now (lost .exit))) (r .count) (r .ends) (now (out .exit)) ⌝ }
+    ensures { λ r. ⌜ Done (settingsOf c) «ts_now» draining (state b (now (ring .entry)) (now (lost .entry))) n (now (out .entry)) (state (r .buffer) (now (ring .exit)) (now (lost .entry))) (r .count) (r .ends) (now (out .exit)) ⌝ }
 {
     match choice::first_rule(b, c, ts_now, draining, ring) {
         Rule::Loss => {
@@ -99,11 +99,11 @@ fn sweep(
     c: Settings,
     ts_now: u64,
     ring: &[u64],
-    lost: &mut [u32],
+    lost: &[u32],
     out: &mut [u8],
 ) -> Step
     requires { ⌜ Turning (settingsOf c) «ts_now» (state b (now ring) (now lost)) 0 (now out) ⌝ }
-    ensures { λ r. ⌜ Swept (settingsOf c) «ts_now» (state b (now (ring .entry)) (now (lost .entry))) (now (out .entry)) (state (r .buffer) (now (ring .entry)) (now (lost .exit))) (r .count) (now (out .exit)) ⌝ }
+    ensures { λ r. ⌜ Swept (settingsOf c) «ts_now» (state b (now (ring .entry)) (now (lost .entry))) (now (out .entry)) (state (r .buffer) (now (ring .entry)) (now (lost .entry))) (r .count) (now (out .exit)) ⌝ }
 {
     let k = choice::late_packets(b, c, ts_now, ring);
     if k < 1 {
@@ -121,11 +121,11 @@ pub fn next_snd_actions(
     budget: u32,
     draining: bool,
     ring: &mut [u64],
-    lost: &mut [u32],
+    lost: &[u32],
     out: &mut [u8],
 ) -> Ran
     requires { ⌜ Runnable (settingsOf c) «ts_now» budget (state b (now ring) (now lost)) (now out) ⌝ }
-    ensures { λ r. ⌜ world (state (r .buffer) (now (ring .exit)) (now (lost .exit))) (now (out .exit)) (r .records) (r .left)
+    ensures { λ r. ⌜ world (state (r .buffer) (now (ring .exit)) (now (lost .entry))) (now (out .exit)) (r .records) (r .left)
         ≡ run (settingsOf c) «ts_now» draining budget (state b (now (ring .entry)) (now (lost .entry))) (now (out .entry)) ⌝ }
 {
     if budget < 1 {

@@ -200,11 +200,11 @@ fn push(
     now_: u64,
     payload: &[u8],
     ring: &mut [u64],
-    lost: &mut [u32],
+    lost: &[u32],
     store: &mut [u8],
 ) -> Messaged
     requires { ⌜ Pushable (books s (now ring) (now lost)) time «now_» (now payload) (now store) ⌝ }
-    ensures { λ r. ⌜ area r (now (ring .exit)) (now (lost .exit)) (now (store .exit))
+    ensures { λ r. ⌜ area r (now (ring .exit)) (now (lost .entry)) (now (store .exit))
         ≡ done (books s (now (ring .entry)) (now (lost .entry))) time «now_» (now (payload .entry)) (now (store .entry)) ⌝ }
 {
     let c = s.settings;

@@ -4,7 +4,8 @@
 --   sentWords         the ring's words with packet i sent
 --   Turned            what one turn does: the areas and books after it, its records, whether the run ends
 --   dropped, lossTurn, dueTurn, windowTurn, unsentTurn, flushTurn, inputTurn   rules 1 to 7; nextTurn, sixteenTurn   the two of rule 5
---   sentAs, popped    packet i is sent; the loss list's first number goes
+--   sentAs            packet i is sent
+--   nearest, popped   the number on the loss list nearest the front, the last there; the list without it
 --   written           records into the list, "24 bytes" each: "Bytes after the last record stay."
 --   Acted             the code did what a turn does
 -- Assumes nothing.
@@ -17,14 +18,13 @@ use mathlib.Core.List.{List, [], _∷_, _++_}
 use Prim.Native.Nat.{ℕ, suc, _+_, _-_, _*_, _%_, min}
 use lib.Dec.{ltb, eqb}
 use lib.ListN.{length, take, getD}
-use lib.Seq.{slice, paste}
+use lib.Seq.{paste}
 use Rattle.numbers.specs.declared.SeqNumber.{SeqNumber}
 use Rattle.numbers.specs.Modular.{seqs, plus, dist}
 use Rattle.rtt.specs.declared.Rtt.{Rtt}
 use Rattle.ring.specs.declared.Entry.{Entry}
 use Rattle.ring.specs.Entry.{readE, writeE}
 use Rattle.ring.specs.Ring.{slotOf}
-use Rattle.losses.specs.LossList.{over}
 use Rattle.rules.specs.Settings.{Settings}
 use Rattle.rules.specs.Sender.{Packet, nothing, wireSizes}
 use Rattle.rules.specs.Records.{Kind, Send, ByTime, ByLoss, Action, encode, sendRecord, dropRecord, waitInput, waitAck}
@@ -83,19 +83,17 @@ sentAs k now i sent st =
       ends = false;
     }
 
--- the loss list without its first number
+abbrev pub nearest : State → ℕ
+nearest st = getD (st .lost) (st .books .lost - 1) 0
+
 unfoldable pub popped : State → State
 popped st =
     let b = st .books in
-    record {
-      books = put b (b .ring) (b .front .0) (b .sent) (b .lost - 1) (b .bytes);
-      ring = st .ring;
-      lost = over (slice 1 (b .lost) (st .lost)) (st .lost);
-    }
+    record { books = put b (b .ring) (b .front .0) (b .sent) (b .lost - 1) (b .bytes); ring = st .ring; lost = st .lost }
 
 -- 2. "Send the number on the loss list nearest the front, removing it there."
 unfoldable pub lossTurn : ℕ → State → Turned
-lossTurn now st = sentAs ByLoss now (dist seqs (st .books .front .0) (getD (st .lost) 0 0)) (st .books .sent) (popped st)
+lossTurn now st = sentAs ByLoss now (dist seqs (st .books .front .0) (nearest st)) (st .books .sent) (popped st)
 
 -- 3. "Resend the packet with the earliest resend time strictly before now"
 abbrev pub dueTurn : ℕ → ℕ → State → Turned

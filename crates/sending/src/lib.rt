@@ -189,18 +189,18 @@ pub fn send_next_lost_packet(
     b: SendBuffer,
     ts_now: u64,
     ring: &mut [u64],
-    lost: &mut [u32],
+    lost: &[u32],
     out: &mut [u8],
     n: usize,
 ) -> SendBuffer
     requires { ⌜ Losing b «ts_now» (now ring) (now lost) ⌝ }
     requires { ⌜ n * 24 + 24 ≤ length (now out) ⌝ }
-    ensures { λ r. ⌜ Acted (lossTurn «ts_now») (state b (now (ring .entry)) (now (lost .entry))) n (now (out .entry)) (state r (now (ring .exit)) (now (lost .exit))) (n + 1) (now (out .exit)) ⌝ }
+    ensures { λ r. ⌜ Acted (lossTurn «ts_now») (state b (now (ring .entry)) (now (lost .entry))) n (now (out .entry)) (state r (now (ring .exit)) (now (lost .entry))) (n + 1) (now (out .exit)) ⌝ }
 {
     let at = b.ring;
     let front = b.front;
-    let first = losses::pop(lost, b.lost);
-    let i = front.distance(first) as usize;
+    let nearest = losses::nearest(lost, b.lost);
+    let i = front.distance(nearest) as usize;
     let rest = b.put(at, front, b.sent, b.lost - 1, b.bytes);
     send_packet(rest, Kind::RetransmitNak, ts_now, i, b.sent, ring, out, n)
 }
@@ -230,13 +230,13 @@ pub fn flush_on_close(
     b: SendBuffer,
     c: Settings,
     ring: &[u64],
-    lost: &mut [u32],
+    lost: &[u32],
     out: &mut [u8],
     n: usize,
 ) -> SendBuffer
     requires { ⌜ Flushable (settingsOf c) (state b (now ring) (now lost)) ⌝ }
     requires { ⌜ n * 24 + 24 ≤ length (now out) ⌝ }
-    ensures { λ r. ⌜ Acted (flushTurn (settingsOf c)) (state b (now (ring .entry)) (now (lost .entry))) n (now (out .entry)) (state r (now (ring .entry)) (now (lost .exit))) (n + 1) (now (out .exit)) ⌝ }
+    ensures { λ r. ⌜ Acted (flushTurn (settingsOf c)) (state b (now (ring .entry)) (now (lost .entry))) n (now (out .entry)) (state r (now (ring .entry)) (now (lost .entry))) (n + 1) (now (out .exit)) ⌝ }
 {
     let at = b.ring;
     let front = b.front;
@@ -251,13 +251,13 @@ pub fn flush_on_close(
 pub fn drop_too_late_packets(
     b: SendBuffer,
     k: usize,
-    lost: &mut [u32],
+    lost: &[u32],
     out: &mut [u8],
     n: usize,
 ) -> SendBuffer
     requires { ⌜ Removable b (now lost) k ⌝ }
     requires { ⌜ (b .front .0 < 2 ^ 31) × (n * 24 + 24 ≤ length (now out)) ⌝ }
-    ensures { λ r. ⌜ Drops k b (now (lost .entry)) n (now (out .entry)) r (now (lost .exit)) (now (out .exit)) ⌝ }
+    ensures { λ r. ⌜ Drops k b (now (lost .entry)) n (now (out .entry)) r (now (out .exit)) ⌝ }
 {
     let front = b.front;
     let to = front.plus(k as u32);

@@ -17,11 +17,10 @@ remove-requires : tie.Need-remove-requires
 remove-requires c κs = search needs
 
 sub-recovered : tie.Need-sub-recovered
-sub-recovered c = lost-less (c .before .before .before .before .before .remove .ensures)
+sub-recovered c = lost-less (c .before .before .before .remove .ensures)
 
 cast-recovered : tie.Need-cast-recovered
-cast-recovered c =
-    record { fits = omega (arith, c .before .before .before .before .before .before .before .before .before .before .before .pre .few) }
+cast-recovered c = record { fits = omega (arith, c .before .before .before .before .before .before .before .before .pre .few) }
 
 expect-requires : tie.Need-expect-requires
 expect-requires c κs = search needs
@@ -29,15 +28,11 @@ expect-requires c κs = search needs
 with-requires : tie.Need-with-requires
 with-requires c κs = search needs
 
-same-length : tie.Need-same-length
-same-length c = search needs
-
 returns : tie.Need-returns
 returns c =
-    let rem = c .before .before .before .before .before .before .before in
-    let sizes = rem .before .before .before in
-    let s = sizes .before .before .before in
-    done-is (rem .remove .ensures) _ _ _ _ _ _ (s .pre .removable .inside) (sizes .wire-sizes .ensures) refl (c .before .expect .ensures) (c .with .ensures)
+    let rem = c .before .before .before .before .before in
+    let sizes = rem .before .before in
+    done-is (rem .remove .ensures) _ _ _ _ _ _ (sizes .wire-sizes .ensures) refl (c .before .expect .ensures) (c .with .ensures)
 
 pub acknowledge-spec : {M : Type 1} → statement M
 acknowledge-spec =
@@ -50,5 +45,4 @@ acknowledge-spec =
     cast-recovered
     expect-requires
     with-requires
-    same-length
     returns)

@@ -35,11 +35,10 @@ distance-requires c κs = search needs
 
 acknowledge-requires : tie.Need-acknowledge-requires
 acknowledge-requires c κs =
-    let d = c .before in
-    let b = d .before .before .before .before in
+    let b = c .before .before .before .before in
     let told = b .before .before .before in
     let v = told .before .before in
-    acceptable (v .before .before .before .pre .ready) _ (sym (v .judge .ensures) ∙ told .enum-told .given .1) _ _ _ (b .with .ensures) (d .distance .ensures)
+    acceptable (v .before .before .before .pre .ready) _ (sym (v .judge .ensures) ∙ told .enum-told .given .1) _ _ _ (b .with .ensures) (c .distance .ensures)
 
 returns : tie.Need-returns
 returns c =
@@ -56,13 +55,9 @@ returns-2 c =
     update-stale _ _ _ _ _ (v .judge .result) (v .judge .ensures) (told .enum-told .given .1) (b .with .result) (g .given .result) (g .given .ensures)
     (b .with .ensures) (w .judge-full .result) (w .judge-full .ensures) _ (c .before .r2 .given .1)
 
-same-length : tie.Need-same-length
-same-length c = search needs
-
 returns-3 : tie.Need-returns-3
 returns-3 c =
-    let call = c .before .before in
-    let d = call .before .before in
+    let d = c .before in
     let told2 = d .before in
     let w = told2 .before .before in
     let b = w .before in
@@ -71,7 +66,7 @@ returns-3 c =
     let v = told .before .before in
     update-done _ _ _ _ _ (v .judge .result) (v .judge .ensures) (told .enum-told .given .1) (b .with .result) (g .given .result) (g .given .ensures)
     (b .with .ensures) (w .judge-full .result) (w .judge-full .ensures) (d .distance .result) _ (told2 .enum-told2 .given .1) (d .distance .ensures)
-    (call .acknowledge .ensures)
+    (c .acknowledge .ensures)
 
 pub update-largest-acked-seq-number-spec : {M : Type 1} → statement M
 update-largest-acked-seq-number-spec =
@@ -89,5 +84,4 @@ update-largest-acked-seq-number-spec =
     acknowledge-requires
     returns
     returns-2
-    same-length
     returns-3)

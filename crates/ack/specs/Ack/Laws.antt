@@ -9,7 +9,7 @@ use mathlib.Core.List.{List, []}
 use Prim.Native.Nat.{ℕ, _-_, _^_, _≤_, _<_}
 use native.Mathlib.Omega.{arith}
 use lib.Dec.{ltb, eqb}
-use lib.ListN.{length, take, length-take}
+use lib.ListN.{take}
 use borrow.Author.Tests.{ltb-false}
 use Rattle.numbers.specs.declared.SeqNumber.{SeqNumber}
 use Rattle.numbers.specs.Modular.{seqs, plus, dist}
@@ -19,7 +19,7 @@ use Rattle.refusals.specs.declared.Verdict.{Verdict}
 use Rattle.refusals.specs.declared.Verdict.the-variants.{Accepted, Refused}
 use Rattle.refusals.specs.Verdict.{when}
 use Rattle.refusals.specs.Verdict.Laws.{when-accepted, answer-refused, answer-accepted}
-use Rattle.losses.specs.LossList.Laws.{from-below}
+use Rattle.losses.specs.LossList.Laws.{staying-few}
 use Rattle.rtt.specs.declared.Rtt.{Rtt}
 use Rattle.rules.specs.Settings.{Settings}
 use Rattle.rules.specs.Sender.{wireSizes}
@@ -28,10 +28,10 @@ use Rattle.rules.specs.Ack.{expect}
 use Rattle.rules.specs.Refusals.{badRtt, fullVerdict}
 use Rattle.rules.proofs.Packets.{sizes-drop}
 use Rattle.buffer.specs.declared.SendBuffer.{SendBuffer}
-use Rattle.buffer.specs.State.{State, state, view, lostOf}
+use Rattle.buffer.specs.State.{State, state, view}
 use Rattle.buffer.specs.State.Stands.{Ready}
 use Rattle.buffer.specs.State.Facts.{stands-facts, stands-entry}
-use Rattle.buffer.specs.Removal.{removed, going, keyAfter}
+use Rattle.buffer.specs.Removal.{removed, keyAfter, staying, going}
 use Rattle.buffer.specs.Removal.Laws.{Removable, Removed, Weighable}
 use Rattle.ack.specs.declared.FullAck.{FullAck}
 use Rattle.ack.specs.declared.AckRtt.{AckRtt}
@@ -62,23 +62,20 @@ pub judge-is : (len : ℕ) (front : SeqNumber) (sent : ℕ) (n next : SeqNumber)
 unfolding judge
 judge-is len front sent n next d l outside v e f g h k = k ∙ rw (h, g, f, e)
 
-module _ {b : SendBuffer} {lost : List ℕ} {d bytes : ℕ} {r : SendBuffer} {over : List ℕ} (R : Removed b lost d bytes r over) where
+module _ {b : SendBuffer} {lost : List ℕ} {d bytes : ℕ} {r : SendBuffer} (R : Removed b lost d bytes r) where
   -- over no words of a ring: these counts do not depend on them
   abbrev bare : State
   bare = state b [] lost
 
-  lost-is : r .lost ≡ b .lost - going d bare
+  lost-is : r .lost ≡ staying d bare
   unfolding removed
   lost-is = ap (λ (st : State). st .books .lost) (R .is [])
 
   pub lost-less : r .lost ≤ b .lost
-  lost-less = omega (arith, lost-is)
+  lost-less = omega (arith, lost-is, staying-few (dist seqs (b .front .0)) (keyAfter d bare) lost (b .lost))
 
-  going-few : b .lost ≤ length lost → going d bare ≤ b .lost
-  going-few h = omega (arith, from-below (dist seqs (b .front .0)) (keyAfter d bare) (lostOf bare), length-take (b .lost) lost)
-
-  recovered-less : b .lost ≤ length lost → b .lost - r .lost ≡ going d bare
-  recovered-less h = omega (arith, lost-is, going-few h)
+  recovered-less : b .lost - r .lost ≡ going d bare
+  recovered-less = rw lost-is
 
   -- the outcome where st is left, but for the expected full number
   abbrev answered : FullAck → State → Left
@@ -86,17 +83,16 @@ module _ {b : SendBuffer} {lost : List ℕ} {d bytes : ℕ} {r : SendBuffer} {ov
       left (acked.Done (with (st .books) (st .books .rtt) (expect (fullOf full) (st .books .expected)))
       (record { received = d; recovered = going d bare; «send_ack2» = full })) (st .lost)
 
-  pub done-is : (c : Settings) (full : FullAck) (ring : List ℕ) (gone e : ℕ) (a : SendBuffer) → b .lost ≤ length lost
-      → gone ≡ wireSizes c (take d (view (state b ring lost)))
+  pub done-is : (c : Settings) (full : FullAck) (ring : List ℕ) (gone e : ℕ) (a : SendBuffer) → gone ≡ wireSizes c (take d (view (state b ring lost)))
       → bytes ≡ b .bytes - gone
       → e ≡ expect (fullOf full) (r .expected)
       → a ≡ with r (r .rtt) e
-      → left (acked.Done a (record { received = d; recovered = b .lost - r .lost; «send_ack2» = full })) over ≡ done c d full (state b ring lost)
+      → left (acked.Done a (record { received = d; recovered = b .lost - r .lost; «send_ack2» = full })) lost ≡ done c d full (state b ring lost)
   unfolding done acknowledged
-  done-is c full ring gone e a h g k f i =
-      let whole : state r ring over ≡ removed d (b .bytes - wireSizes c (take d (view (state b ring lost)))) (state b ring lost) =
+  done-is c full ring gone e a g k f i =
+      let whole : state r ring lost ≡ removed d (b .bytes - wireSizes c (take d (view (state b ring lost)))) (state b ring lost) =
       R .is ring ∙ ap (λ (m : ℕ). removed d m (state b ring lost)) (k ∙ ap (λ (m : ℕ). b .bytes - m) g) in
-      rw (i, f, recovered-less h) (ap (answered full) whole)
+      rw (i, f, recovered-less) (ap (answered full) whole)
 
 module _ (c : Settings) (n : SeqNumber) (full : FullAck) (rtt : AckRtt) (st : State) (v : Verdict) (same : v ≡ judgeOn n st) where
   pub update-refused : (r : Refusal) → v ≡ Refused r → left (acked.Refused (st .books) r) (st .lost) ≡ update c n full rtt st

@@ -1,18 +1,18 @@
 -- Removal on the books is removal in the rules.
 --   Removable, Removed, Weighable   what the code asks for, and what it leaves
---   gone-few, removed-is       how the parts of `remove` make it whole
+--   removed-is                 how the parts of `remove` make it whole
 --   lost-length, lost-inside   the loss list lies within its area
---   going-is, staying-count    what goes of the loss list, and what stays
+--   going-is                   what goes of the loss list
 --   stands-removed             k packets go, and the byte count becomes what it becomes there
 -- Assumes nothing.
 use mathlib.Core.Path.{_≡_, refl, sym, ap, _∙_}
-use mathlib.Core.Bool.{Bool, true, false, cond}
-use mathlib.Core.List.{List, [], _∷_}
-use Prim.Native.Nat.{ℕ, zero, suc, _+_, _-_, _*_, _^_, _≤_, _<_, min, max}
+use mathlib.Core.List.{List}
+use Prim.Native.Nat.{ℕ, suc, _+_, _-_, _*_, _^_, _≤_, _<_, min}
 use native.Mathlib.Omega.{arith}
 use lib.Dec.{ltb}
 use lib.ListN.{length, take, drop, length-take}
-use borrow.Author.Tests.{ltb-true, ltb-false}
+use lib.Seq.{length-take-le}
+use borrow.Author.Tests.{ltb-false}
 use Rattle.numbers.specs.declared.SeqNumber.{SeqNumber}
 use Rattle.numbers.specs.Modular.{seqs, plus, dist}
 use Rattle.refusals.specs.Choice.{cond-by}
@@ -21,17 +21,16 @@ use Rattle.ring.specs.Entry.{readE}
 use Rattle.ring.specs.Ring.{slotOf}
 use Rattle.ring.specs.Ring as ring
 use Rattle.ring.specs.Ring.Laws.{Placed, slot-below}
-use Rattle.losses.specs.LossList.Laws as list
-use Rattle.losses.specs.LossList.Laws.{take-over, length-over, from-below}
+use Rattle.losses.specs.LossList as list
+use Rattle.losses.specs.LossList.Laws.{staying-few}
 use Rattle.losses.specs.LossList.Stands as losses
 use Rattle.losses.specs.LossList.Stands.{wire-plus, stands-length, stands-from, stands-below}
 use Rattle.rules.specs.Numbers.{wire}
-use Rattle.rules.specs.Settings.{Settings, capacity}
+use Rattle.rules.specs.Settings.{Settings}
 use Rattle.rules.specs.Sender.{Sender, from, below, remove}
-use Rattle.rules.specs.Books.Laws.{Kept}
 use Rattle.buffer.specs.declared.SendBuffer.{SendBuffer}
-use Rattle.buffer.specs.State.{State, state, view, lostOf, put}
-use Rattle.buffer.specs.State.View.{packets-length, packets-remove, places-remove}
+use Rattle.buffer.specs.State.{State, state, lostOf, put}
+use Rattle.buffer.specs.State.View.{packets-remove, places-remove}
 use Rattle.buffer.specs.State.Stands.{Stands}
 use Rattle.buffer.specs.Removal.{removed, frontAfter, keyAfter, staying, going}
 
@@ -43,8 +42,8 @@ pub record Removable (b : SendBuffer) (lost : List ℕ) (k : ℕ) : Type 0 where
   pub inside : b .lost ≤ length lost
 
 -- what `remove` leaves, over any words of the ring
-pub record Removed (b : SendBuffer) (lost : List ℕ) (k bytes : ℕ) (r : SendBuffer) (left : List ℕ) : Type 0 where
-  pub is : (xs : List ℕ) → state r xs left ≡ removed k bytes (state b xs lost)
+pub record Removed (b : SendBuffer) (lost : List ℕ) (k bytes : ℕ) (r : SendBuffer) : Type 0 where
+  pub is : (xs : List ℕ) → state r xs lost ≡ removed k bytes (state b xs lost)
 
 pub record Weighable (c : Settings) (r : Ring) (ring : List ℕ) (k : ℕ) : Type 0 where
   pub placed : Placed r ring
@@ -54,18 +53,13 @@ pub record Weighable (c : Settings) (r : Ring) (ring : List ℕ) (k : ℕ) : Typ
 
 -- ## What the code does
 
-pub gone-few : (key : ℕ → ℕ) (j gone : ℕ) (left : List ℕ) (n : ℕ) (lost : List ℕ) → list.Removed key j gone left n lost → gone ≤ n
-gone-few key j gone left n lost G = omega (arith, G .recovered, from-below key j (take n lost), length-take n lost)
-
-pub removed-is : (b : SendBuffer) (lost left : List ℕ) (k bytes : ℕ) (r : Ring) (to : SeqNumber) (sent gone : ℕ) → to .0 ≡ plus seqs (b .front .0) k
-    → list.Removed (dist seqs (b .front .0)) (dist seqs (b .front .0) (to .0)) gone left (b .lost) lost
+pub removed-is : (b : SendBuffer) (lost : List ℕ) (k bytes : ℕ) (r : Ring) (to : SeqNumber) (sent listed : ℕ) → to .0 ≡ plus seqs (b .front .0) k
+    → listed ≡ list.staying (dist seqs (b .front .0)) (dist seqs (b .front .0) (to .0)) (b .lost) lost
     → r ≡ ring.removed k (b .ring)
     → sent ≡ b .sent - k
-    → Removed b lost k bytes (put b r (to .0) sent (b .lost - gone) bytes) left
+    → Removed b lost k bytes (put b r (to .0) sent listed bytes)
 unfolding removed
-removed-is b lost left k bytes r to sent gone e G f g = record {
-  is = λ xs. rw (f, g, G .recovered, G .area, e);
-}
+removed-is b lost k bytes r to sent listed e l f g = record { is = λ xs. rw (f, g, l, e) }
 
 -- ## What it stands for
 
@@ -95,17 +89,14 @@ module _ {c : Settings} {st : State} {s : Sender} (S : Stands c st s) where
     near : s .front + k < s .front + 2 ^ 31
     near = let p = S .placed in omega (arith, p .cap, p .len)
 
-    stay : losses.Stands (from (s .front + k) (s .lost)) (s .front + k) (staying k st)
-    stay = rw (to, S .front) (stands-from (s .front) (s .front + k) (omega arith) near (S .lost))
+    stay : losses.Stands (from (s .front + k) (s .lost)) (s .front + k) (take (staying k st) (st .lost))
+    stay = rw (to, S .front) (stands-from (s .front) (s .front + k) (omega arith) near (st .books .lost) (st .lost) lost-inside (S .lost))
 
     pub going-is : going k st ≡ below (s .front + k) (s .lost)
-    going-is = rw (to, S .front) (stands-below (s .front) (s .front + k) (omega arith) near (S .lost))
+    going-is = rw (to, S .front) (stands-below (s .front) (s .front + k) (omega arith) near (st .books .lost) (st .lost) lost-inside (S .lost))
 
-    pub staying-count : st .books .lost - going k st ≡ length (staying k st)
-    staying-count = omega (arith, lost-length, from-below (dist seqs (st .books .front .0)) (keyAfter k st) (lostOf st))
-
-    staying-few : length (staying k st) ≤ length (st .lost)
-    staying-few = omega (arith, lost-inside, staying-count)
+    few : staying k st ≤ length (st .lost)
+    few = omega (arith, lost-inside, staying-few (dist seqs (st .books .front .0)) (keyAfter k st) (st .lost) (st .books .lost))
 
     pub stands-removed : (bytes : ℕ) → Stands c (removed k bytes st) (remove k bytes s)
     unfolding removed
@@ -115,13 +106,13 @@ module _ {c : Settings} {st : State} {s : Sender} (S : Stands c st s) where
         record {
           placed = record { cap = p .cap; slot = slot-below (st .books .ring) (p .slot) k (omega (arith, p .len)); len = omega (arith, p .len); area = p .area };
           cap = S .cap;
-          room = rw (length-over (staying k st) (st .lost) staying-few) (S .room);
+          room = S .room;
           packets = packets-remove (st .books .ring) (st .ring) p k h ∙ ap (drop k) (S .packets);
           places = places-remove (st .books .ring) (st .ring) p (S .places) k h;
           front = to;
           next = omega (arith, S .next);
-          count = staying-count ∙ stands-length stay;
-          lost = rw (staying-count, take-over (staying k st) (st .lost)) stay;
+          count = sym (length-take-le (staying k st) (st .lost) few) ∙ stands-length stay;
+          lost = stay;
           bytes = refl;
           others = S .others;
           turns = r .turns;

@@ -25,10 +25,10 @@ use Rattle.pacing.specs.Books.Laws as PacingLaws
 use Rattle.ring.specs.declared.Entry.{Entry}
 use Rattle.ring.specs.Entry.{readE}
 use Rattle.ring.specs.Ring.{slotOf}
-use Rattle.losses.specs.LossList.{ascends, keeps}
+use Rattle.losses.specs.LossList.{descends, keeps}
 use Rattle.losses.specs.LossList.Stands as losses
 use Rattle.losses.specs.LossList.Stands.{keyOf, seen, stands-length}
-use Rattle.losses.specs.LossList.Stands.Books.{stands-keeps, keeps-stands}
+use Rattle.losses.specs.LossList.Stands.Books.{stands-keeps, keeps-stands, keeps-ascends}
 use Rattle.rules.specs.Numbers.{wire}
 use Rattle.rules.specs.Numbers.Laws.{wire-below}
 use Rattle.rules.specs.Settings.{Settings, inRange, capacity}
@@ -36,7 +36,7 @@ use Rattle.rules.specs.Sender as rules
 use Rattle.rules.specs.Sender.{Packet, Sender, nothing, sentOf, wireSizes}
 use Rattle.rules.specs.Books as books
 use Rattle.rules.specs.Books.{every, sentKept, unsentKept, heldKept}
-use Rattle.rules.specs.Books.Laws.{Kept, Sent, Unsent, HeldIn, kept-facts, facts-kept}
+use Rattle.rules.specs.Books.Laws.{Kept, Sent, Unsent, HeldIn, kept-facts}
 use Rattle.rules.proofs.CallsKept.{fresh-kept}
 use Rattle.buffer.specs.declared.Flushed.{Flushed}
 use Rattle.buffer.specs.declared.Flushed.the-variants.{Nothing, Held}
@@ -77,14 +77,6 @@ no-tests : every [] ≡ true
 unfolding every
 no-tests = refl
 
-head : (t : Bool) (ts : List Bool) → every (t ∷ ts) ≡ true → t ≡ true
-unfolding every
-head t ts e = and-eq-true-iff t (every ts) .0 e .0
-
-rest : (t : Bool) (ts : List Bool) → every (t ∷ ts) ≡ true → every ts ≡ true
-unfolding every
-rest t ts e = and-eq-true-iff t (every ts) .0 e .1
-
 all-by : (t : Packet → Bool) (ps : List Packet) → ((i : ℕ) → i < length ps → t (getD ps i nothing) ≡ true) → books.all t ps ≡ true
 unfolding books.all
 all-by t [] f = refl
@@ -122,7 +114,7 @@ record Parts (c : Settings) (st : State) : Type 0 where
   pub entries : entriesKept c (st .books) (st .ring) ≡ true
   pub covers : wireSizes c (view st) ≤ st .books .bytes
   pub inside : st .books .lost ≤ length (st .lost)
-  pub ascending : ascends (dist seqs (st .books .front .0)) 0 (st .books .sent) (lostOf st) ≡ true
+  pub descending : descends (dist seqs (st .books .front .0)) (st .books .sent) (lostOf st) ≡ true
 
 parts : (c : Settings) (st : State) → kept c st ≡ true → Parts c st
 unfolding kept keeps
@@ -139,7 +131,7 @@ parts c st e =
       entries = r₃ .0;
       covers = leb-true _ _ (r₄ .0);
       inside = leb-true _ _ (r₅ .0);
-      ascending = r₅ .1;
+      descending = r₅ .1;
     }
 
 module _ (c : Settings) (st : State) (e : kept c st ≡ true) where
@@ -149,11 +141,12 @@ module _ (c : Settings) (st : State) (e : kept c st ≡ true) where
   few : st .books .sent ≤ st .books .ring .len
   few = P .numbers .sent
 
-  ordered : ascends (keyOf (st .books .front .0)) 0 (st .books .sent) (lostOf st) ≡ true
-  ordered = ap (λ (f : ℕ). ascends (dist seqs f) 0 (st .books .sent) (lostOf st)) (sym (small (st .books .front .0) (P .numbers .front))) ∙ P .ascending
+  ordered : descends (keyOf (st .books .front .0)) (st .books .sent) (lostOf st) ≡ true
+  ordered = ap (λ (f : ℕ). descends (dist seqs f) (st .books .sent) (lostOf st)) (sym (small (st .books .front .0) (P .numbers .front))) ∙ P .descending
 
   list-stands : losses.Stands (seen (st .books .front .0) (lostOf st)) (st .books .front .0) (lostOf st)
-  list-stands = keeps-stands (st .books .front .0) 0 (st .books .sent) (lostOf st) ordered
+  list-stands =
+      keeps-stands (st .books .front .0) (st .books .sent) (lostOf st) ordered (let p = P .areas .placed in omega (arith, few, p .len, p .cap))
 
   pub kept-stands : (p : SenderCongestionControl) → Stands c st (seenAs p st)
   kept-stands p = record {
@@ -213,7 +206,7 @@ module _ (c : Settings) (st : State) (e : kept c st ≡ true) where
         (on _ _ (le-leb _ _ fits)
         (on _ _ (le-leb _ _ low)
         (on _ _ (le-leb _ _ high)
-        (on _ _ (sym (stands-keeps (st .books .sent) list-stands) ∙ ordered)
+        (on _ _ (keeps-ascends (st .books .front .0) (st .books .sent) (lostOf st) ordered)
         (on _ _ (rw sent-count sent-all)
         (on _ _ (rw sent-count unsent-all)
         (on _ _ (lt-ltb _ _ (n .bytes))
@@ -259,11 +252,11 @@ module _ (c : Settings) (e : Entry) (place : e .place ≤ 3) where
       ∙ rw (le-leb _ _ place, lt-ltb _ _ (p .time), lt-ltb _ _ (p .message), le-leb _ _ (p .len), eq-eqb _ _ (p .never), eq-eqb _ _ (p .unset))
 
 module _ {c : Settings} {st : State} {s : Sender} (S : Stands c st s) (K : Kept c s) where
-  list-kept : ascends (dist seqs (st .books .front .0)) 0 (st .books .sent) (lostOf st) ≡ true
-  unfolding books.kept
+  list-kept : descends (dist seqs (st .books .front .0)) (st .books .sent) (lostOf st) ≡ true
   list-kept =
-      let listed = head _ _ (rest _ _ (rest _ _ (rest _ _ (rest _ _ (facts-kept c s K))))) in
-      rw (S .front) (stands-keeps (st .books .sent) (S .lost) ∙ rw (← S .next) listed)
+      let f = stands-facts S K in
+      let p = f .placed in
+      rw (S .front) (stands-keeps (st .books .sent) (omega (arith, f .sent, p .len, p .cap)) (S .lost) (rw (S .next) at (K .good .lost)))
 
   pub ready-kept : kept c st ≡ true
   unfolding kept keeps

@@ -10,8 +10,5 @@ returns c = search (lt-ltb, le-ltb, le-leb, lt-leb)
 returns-2 : tie.Need-returns-2
 returns-2 c = search (lt-ltb, le-ltb, le-leb, lt-leb)
 
-returns-3 : tie.Need-returns-3
-returns-3 c = search (lt-ltb, le-ltb, le-leb, lt-leb)
-
 pub in-order-spec : {M : Type 1} → statement M
-in-order-spec = tie.close (tie.spec returns returns-2 returns-3)
+in-order-spec = tie.close (tie.spec returns returns-2)

@@ -1,25 +1,23 @@
--- `losses::keeps` meets its contract. After i entries in order what is left to check is the rest of the list, from the last key on.
+-- `losses::keeps` meets its contract. After i entries in order what is left to check is the rest of the list, below the last key.
 -- Assumes nothing.
 use mathlib.Core.Path.{_≡_, sym, ap, _∙_}
 use Prim.Native.Nat.{ℕ, _-_, _≤_}
-use lib.Dec.{lit<}
-use lib.ListN.{length, take, drop, getD}
+use lib.ListN.{length, take, drop}
 use borrow.Author.Tests.{not-true, not-false}
 use native.Mathlib.Omega.{arith}
 use Rattle.numbers.specs.Modular.{seqs, dist}
-use Rattle.numbers.specs.Modular.Laws.{dist-below}
-use Rattle.losses.specs.LossList.{ascends, keeps}
-use Rattle.losses.specs.LossList.Laws.{ascends-on, ascends-not, ascends-end, keeps-is, keeps-beyond}
+use Rattle.losses.specs.LossList.{descends, keeps}
+use Rattle.losses.specs.LossList.Laws.{descends-on, descends-not, descends-end, keeps-is, keeps-beyond}
 use borrow.Author.Needs.{needs}
 use Rattle.losses.proofs.keeps.Statement.{statement}
 use Rattle.losses.proofs.keeps.Tie as tie
 
 abbrev Inv-loop : tie.InvT-loop
-Inv-loop list len front sent low₀ i₀ low i =
-    (i ≤ len) × (len ≤ length list) × (keeps (front .0) sent len list ≡ ascends (dist seqs (front .0)) low sent (drop i (take len list)))
+Inv-loop list len front sent high₀ i₀ high i =
+    (i ≤ len) × (len ≤ length list) × (keeps (front .0) sent len list ≡ descends (dist seqs (front .0)) high (drop i (take len list)))
 
 abbrev μ-loop : tie.MeasureT-loop
-μ-loop list len front sent low₀ i₀ low i = len - i
+μ-loop list len front sent high₀ i₀ high i = len - i
 
 returns : tie.Need-returns Inv-loop μ-loop
 returns c = let s = c .before .before in sym (keeps-beyond (s .args .front .0) (s .args .sent) (s .args .len) (s .args .list .now) (c .if1 .taken))
@@ -45,16 +43,9 @@ returns-2 c =
     let lp = d .before .before .before in
     let s = lp .before .before .before in
     sym (lp .loop .inv .2
-    ∙ ascends-not (dist seqs (s .args .front .0)) (s .args .sent) (s .args .list .now) (s .args .len) (lp .loop .inv .1) (lp .loop .i) (lp .loop .low)
+    ∙ descends-not (dist seqs (s .args .front .0)) (s .args .list .now) (s .args .len) (lp .loop .inv .1) (lp .loop .i) (lp .loop .high)
     (d .before .before .loop-test .taken)
     (rw (← d .distance .ensures) (sym (c .before .in-order .ensures) ∙ not-true _ (c .if2 .taken))))
-
-add-low : tie.Need-add-low Inv-loop μ-loop
-add-low c =
-    let d = c .before .before in
-    let lp = d .before .before .before in
-    let s = lp .before .before .before in
-    omega (arith, d .distance .ensures, dist-below seqs (s .args .front .0) (getD (s .args .list .now) (lp .loop .i) 0) (lit< tt))
 
 add-i : tie.Need-add-i Inv-loop μ-loop
 add-i c = search needs
@@ -71,7 +62,7 @@ loop-again c =
       search needs,
       rw (d .distance .ensures)
           (lp .loop .inv .2
-          ∙ ascends-on (dist seqs (s .args .front .0)) (s .args .sent) (s .args .list .now) (s .args .len) (lp .loop .inv .1) (lp .loop .i) (lp .loop .low)
+          ∙ descends-on (dist seqs (s .args .front .0)) (s .args .list .now) (s .args .len) (lp .loop .inv .1) (lp .loop .i) (lp .loop .high)
           (d .before .before .loop-test .taken)
           (rw (← d .distance .ensures) (sym (c .before .in-order .ensures) ∙ not-false _ (c .if2 .left)))),
     )
@@ -82,8 +73,8 @@ returns-3 c =
     let s = lp .before .before .before in
     let end : lp .loop .i ≡ s .args .len = omega arith in
     sym (lp .loop .inv .2
-    ∙ ap (λ (n : ℕ). ascends (dist seqs (s .args .front .0)) (lp .loop .low) (s .args .sent) (drop n (take (s .args .len) (s .args .list .now)))) end
-    ∙ ascends-end (dist seqs (s .args .front .0)) (s .args .sent) (s .args .list .now) (s .args .len) (lp .loop .inv .1) (lp .loop .low))
+    ∙ ap (λ (n : ℕ). descends (dist seqs (s .args .front .0)) (lp .loop .high) (drop n (take (s .args .len) (s .args .list .now)))) end
+    ∙ descends-end (dist seqs (s .args .front .0)) (s .args .list .now) (s .args .len) (lp .loop .inv .1) (lp .loop .high))
 
 pub keeps-spec : {M : Type 1} → statement M
 keeps-spec =
@@ -98,7 +89,6 @@ keeps-spec =
     distance-requires
     in-order-requires
     returns-2
-    add-low
     add-i
     loop-less
     loop-again

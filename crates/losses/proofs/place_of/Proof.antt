@@ -1,4 +1,4 @@
--- `losses::place_of` meets its contract: the loop passes the entries whose key is below that of `x`, and stops at the first other one.
+-- `losses::place_of` meets its contract: the loop passes the entries whose key is above that of `x`, and stops at the first other one.
 -- Assumes nothing.
 use Prim.Native.Nat.{ℕ, _-_, _≤_, _<_}
 use lib.ListN.{getD}
@@ -11,7 +11,7 @@ use Rattle.losses.proofs.place_of.Tie as tie
 
 abbrev Inv-loop : tie.InvT-loop
 Inv-loop list len front k i₀ i =
-    (i ≤ len) × ((j : ℕ) → j < i → dist seqs (front .0) (getD list j 0) < k)
+    (i ≤ len) × ((j : ℕ) → j < i → k < dist seqs (front .0) (getD list j 0))
 
 abbrev μ-loop : tie.MeasureT-loop
 μ-loop list len front k i₀ i = len - i

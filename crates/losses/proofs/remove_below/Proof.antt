@@ -1,49 +1,52 @@
--- `losses::remove_below` meets its contract. The loop keeps what stays in front (`Kept`); at its end the rest of the length is what went.
+-- `losses::remove_below` meets its contract. The loop passes the entries at the end that go (`staying-on`), and stops at the first that stays
+-- (`staying-end`).
 -- Assumes nothing.
-use mathlib.Core.Logic.{⊎-elim}
-use Prim.Native.Nat.{ℕ, _-_}
+use mathlib.Core.Path.{_≡_, refl, sym, _∙_}
+use Prim.Native.Nat.{_≤_}
 use native.Mathlib.Omega.{arith}
 use Rattle.numbers.specs.Modular.{seqs, dist}
-use Rattle.losses.proofs.Kept.{Kept, kept-none, kept-low, kept-high, kept-all}
+use Rattle.losses.specs.LossList.{staying}
+use Rattle.losses.specs.LossList.Laws.{staying-on, staying-end, staying-none}
 use borrow.Author.Needs.{needs}
 use Rattle.losses.proofs.remove_below.Statement.{statement}
 use Rattle.losses.proofs.remove_below.Tie as tie
 
 abbrev Inv-loop : tie.InvT-loop
-Inv-loop list₀ len front k i₀ j₀ list i j =
-    Kept (dist seqs (front .0)) k list₀ len i j list
+Inv-loop list len front k n₀ n =
+    (n ≤ len) × (staying (dist seqs (front .0)) k len list ≡ staying (dist seqs (front .0)) k n list)
 
 abbrev μ-loop : tie.MeasureT-loop
-μ-loop list₀ len front k i₀ j₀ list i j = len - i
+μ-loop list len front k n₀ n = n
 
 distance-requires : tie.Need-distance-requires Inv-loop μ-loop
 distance-requires c κs = search needs
 
 loop-holds : tie.Need-loop-holds Inv-loop μ-loop
-loop-holds c =
-    let s = c .before .before in
-    kept-none (dist seqs (s .args .front .0)) (c .distance .result) (s .args .list .now) (s .args .len) (s .pre)
+loop-holds c = (search needs, refl)
+
+sub-y : tie.Need-sub-y Inv-loop μ-loop
+sub-y c = search needs
 
 mul-y : tie.Need-mul-y Inv-loop μ-loop
 mul-y c = search needs
 
-slice-read-y : tie.Need-slice-read-y Inv-loop μ-loop
-slice-read-y c = search needs
+shared-slice-read-y : tie.Need-shared-slice-read-y Inv-loop μ-loop
+shared-slice-read-y c = search needs
 
 distance-requires-2 : tie.Need-distance-requires-2 Inv-loop μ-loop
 distance-requires-2 c κs = search needs
 
-mul-list : tie.Need-mul-list Inv-loop μ-loop
-mul-list c = search needs
+returns : tie.Need-returns Inv-loop μ-loop
+returns c =
+    let lp = c .before .before .before .before in
+    let s = lp .before .before .before in
+    let k = lp .before .distance in
+    rw (← k .ensures)
+    (sym (lp .loop .inv .1
+    ∙ staying-end (dist seqs (s .args .front .0)) (k .result) (s .args .list .now) (lp .loop .n) (c .before .before .before .loop-test .taken) (omega arith)))
 
-slice-write-list : tie.Need-slice-write-list Inv-loop μ-loop
-slice-write-list c = search needs
-
-add-j : tie.Need-add-j Inv-loop μ-loop
-add-j c = search needs
-
-add-i : tie.Need-add-i Inv-loop μ-loop
-add-i c = search needs
+sub-n : tie.Need-sub-n Inv-loop μ-loop
+sub-n c = search needs
 
 loop-less : tie.Need-loop-less Inv-loop μ-loop
 loop-less c = search needs
@@ -51,27 +54,22 @@ loop-less c = search needs
 loop-again : tie.Need-loop-again Inv-loop μ-loop
 loop-again c =
     let lp = c .before .before .before .before in
-    let s = lp .before .before .before in
-    let key : ℕ → ℕ = dist seqs (s .args .front .0) in
-    let k = lp .before .distance .result in
-    let turn = c .before .before .before .loop-test .taken in
-    ⊎-elim
-    (λ w. rw (w .1, w .2) (kept-high key k (s .args .list .now) (s .args .len) (s .pre) (lp .loop .i) (lp .loop .j) (lp .loop .list) (lp .loop .inv) turn (omega arith)))
-    (λ w. rw (w .1, w .2) (kept-low key k (s .args .list .now) (s .args .len) (s .pre) (lp .loop .i) (lp .loop .j) (lp .loop .list) (lp .loop .inv) turn (omega arith)))
-    (c .if1 .came)
+    let s = lp .before .before .before in (
+      search needs,
+      lp .loop .inv .1
+          ∙ staying-on (dist seqs (s .args .front .0)) (lp .before .distance .result) (s .args .list .now) (lp .loop .n)
+          (c .before .before .before .loop-test .taken) (omega arith),
+    )
 
-sub-result : tie.Need-sub-result Inv-loop μ-loop
-sub-result c = search needs
-
-same-length : tie.Need-same-length Inv-loop μ-loop
-same-length c = search needs
-
-returns : tie.Need-returns Inv-loop μ-loop
-returns c =
+returns-2 : tie.Need-returns-2 Inv-loop μ-loop
+returns-2 c =
     let lp = c .before in
     let s = lp .before .before .before in
-    rw (← lp .before .distance .ensures)
-    (kept-all (dist seqs (s .args .front .0)) (lp .before .distance .result) (s .args .list .now) (s .args .len) (s .pre) (lp .loop .i) (lp .loop .j) (lp .loop .list) (lp .loop .inv) (c .loop-test .left))
+    let k = lp .before .distance in
+    let none : lp .loop .n ≡ 0 = omega arith in
+    rw (← k .ensures)
+    (sym (lp .loop .inv .1
+    ∙ rw none (staying-none (dist seqs (s .args .front .0)) (k .result) (s .args .list .now))))
 
 pub remove-below-spec : {M : Type 1} → statement M
 remove-below-spec =
@@ -81,15 +79,12 @@ remove-below-spec =
     μ-loop
     distance-requires
     loop-holds
+    sub-y
     mul-y
-    slice-read-y
+    shared-slice-read-y
     distance-requires-2
-    mul-list
-    slice-write-list
-    add-j
-    add-i
+    returns
+    sub-n
     loop-less
     loop-again
-    sub-result
-    same-length
-    returns)
+    returns-2)

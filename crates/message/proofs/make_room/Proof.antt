@@ -4,7 +4,6 @@
 use Prim.Native.Nat.{_≤_}
 use native.Mathlib.Omega.{arith}
 use Rattle.message.specs.Message.Parts.{weighable, removable, covered, front-small, room-full, room-none}
-use borrow.Author.Needs.{needs}
 use Rattle.message.proofs.make_room.Statement.{statement}
 use Rattle.message.proofs.make_room.Tie as tie
 
@@ -19,36 +18,33 @@ wire-sizes-requires c κs = let s = start c in weighable (s .pre .ready .stands)
 
 sub-remove : tie.Need-sub-remove
 sub-remove c =
-    let t = c .before .before .before in
+    let t = c .before .before in
     let s = start t in
-    rw (c .before .before .wire-sizes .ensures) (covered (s .pre .ready .stands) (s .pre .ready .kept) (full t))
+    rw (c .before .wire-sizes .ensures) (covered (s .pre .ready .stands) (s .pre .ready .kept) (full t))
 
 remove-requires : tie.Need-remove-requires
 remove-requires c κs =
-    let t = c .before .before .before in
+    let t = c .before .before in
     let s = start t in
     removable (s .pre .ready .stands) (s .pre .ready .kept) (full t)
 
-add-t13 : tie.Need-add-t13
-add-t13 c =
-    let s = start (c .before .before .before .before .before .before .before) in
+add-t11 : tie.Need-add-t11
+add-t11 c =
+    let s = start (c .before .before .before .before) in
     omega (arith, s .pre .removed)
 
-add-t14 : tie.Need-add-t14
-add-t14 c =
-    let w = c .before .before .before .before .before .before .before in
+add-t12 : tie.Need-add-t12
+add-t12 c =
+    let w = c .before .before .before .before in
     let s = start (w .before) in
     omega (arith, s .pre .wire, w .wire-sizes .ensures, front-small (s .pre .ready .stands) (s .pre .ready .kept) (full (w .before)))
 
-same-length : tie.Need-same-length
-same-length c = search needs
-
 returns : tie.Need-returns
 returns c =
-    let m = c .before .before .before .before in
-    let w = m .before .before .before in
+    let m = c .before .before in
+    let w = m .before .before in
     let s = start (w .before) in
-    room-full _ (s .args .p) (s .args .ring .now) (s .args .lost .now) _ _ _ (s .pre .ready .stands .placed .slot) (full (w .before))
+    room-full _ (s .args .p) (s .args .ring .now) (s .args .lost .now) _ _ (s .pre .ready .stands .placed .slot) (full (w .before))
     (w .wire-sizes .ensures) (m .remove .ensures)
 
 returns-2 : tie.Need-returns-2
@@ -63,8 +59,7 @@ make-room-spec =
     wire-sizes-requires
     sub-remove
     remove-requires
-    add-t13
-    add-t14
-    same-length
+    add-t11
+    add-t12
     returns
     returns-2)

@@ -12,14 +12,13 @@ use Rattle.message.proofs.push_message.Statement.{statement}
 use Rattle.message.proofs.push_message.Tie as tie
 
 abbrev Inv-loop : tie.InvT-loop
-Inv-loop c time payload ring₀ lost₀ store₀ n number p₀ ring lost store p =
-    Going (settingsOf c) time (number .0) payload n (world (work p₀ ring₀ lost₀) store₀) (world (work p ring lost) store)
+Inv-loop c time payload ring₀ lost store₀ n number p₀ ring store p =
+    Going (settingsOf c) time (number .0) payload n (world (work p₀ ring₀ lost) store₀) (world (work p ring lost) store)
     × (length ring ≡ length ring₀)
-    × (length lost ≡ length lost₀)
     × (length store ≡ length store₀)
 
 abbrev μ-loop : tie.MeasureT-loop
-μ-loop c time payload ring₀ lost₀ store₀ n number p₀ ring lost store p = n - p .made
+μ-loop c time payload ring₀ lost store₀ n number p₀ ring store p = n - p .made
 
 cast-count : tie.Need-cast-count Inv-loop μ-loop
 cast-count c = search needs
@@ -34,34 +33,31 @@ loop-holds : tie.Need-loop-holds Inv-loop μ-loop
 loop-holds c =
     let k = c .before .before in
     let s = k .before .before .before .before .before .before in
-    (going-opened _ _ _ _ (s .args .b) _ _ _ _ (k .count .ensures .is) (c .begin .ensures) (s .pre), refl, refl, refl)
+    (going-opened _ _ _ _ (s .args .b) _ _ _ _ (k .count .ensures .is) (c .begin .ensures) (s .pre), refl, refl)
 
 push-data-requires : tie.Need-push-data-requires Inv-loop μ-loop
 push-data-requires c κs =
-    let t = c .before .before .before in
+    let t = c .before .before in
     going-next (t .before .before .loop .inv .0) (t .if1 .taken)
 
 loop-less : tie.Need-loop-less Inv-loop μ-loop
 loop-less c =
-    let d = c .before .before .before .before .before .before in
-    let t = d .before .before .before .before in
+    let d = c .before .before .before .before in
+    let t = d .before .before .before in
     going-less (t .before .before .loop .inv .0) (t .if1 .taken) _ (d .push-data .ensures)
 
 loop-again : tie.Need-loop-again Inv-loop μ-loop
 loop-again c =
-    let d = c .before .before .before .before .before .before in
-    let t = d .before .before .before .before in
+    let d = c .before .before .before .before in
+    let t = d .before .before .before in
     let lp = t .before .before .loop in
-    (going-one (lp .inv .0) (t .if1 .taken) _ (d .push-data .ensures), search needs, search needs, search needs)
+    (going-one (lp .inv .0) (t .if1 .taken) _ (d .push-data .ensures), search needs, search needs)
 
 same-length : tie.Need-same-length Inv-loop μ-loop
 same-length c = c .before .before .loop .inv .1
 
 same-length-2 : tie.Need-same-length-2 Inv-loop μ-loop
 same-length-2 c = c .before .before .loop .inv .2
-
-same-length-3 : tie.Need-same-length-3 Inv-loop μ-loop
-same-length-3 c = c .before .before .loop .inv .3
 
 returns : tie.Need-returns Inv-loop μ-loop
 returns c =
@@ -86,5 +82,4 @@ push-message-spec =
     loop-again
     same-length
     same-length-2
-    same-length-3
     returns)

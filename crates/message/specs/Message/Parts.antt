@@ -19,7 +19,6 @@ use Rattle.ring.specs.Ring.Laws.{Placed}
 use Rattle.rules.specs.Settings.{Settings}
 use Rattle.rules.specs.Sender.{Sender, wireSizes}
 use Rattle.rules.specs.Books.Laws.{Kept}
-use Rattle.rules.specs.Message as rules
 use Rattle.rules.proofs.Packets.{sizes-drop}
 use Rattle.buffer.specs.declared.SendBuffer.{SendBuffer}
 use Rattle.buffer.specs.State.{State, view, packetsOf, put}
@@ -74,14 +73,14 @@ module _ {c : Settings} {st : State} {s : Sender} (S : Stands c st s) (K : Kept 
         omega (arith, e, z, stands-entry S K 0 some .len, f .settings .size, f .settings .overhead)
 
 module _ (c : Settings) (p : Pushed) (ring lost : List ℕ) where
-  pub room-full : (left : List ℕ) (r : SendBuffer) (wire : ℕ) → p .buffer .ring .slot < p .buffer .ring .cap
+  pub room-full : (r : SendBuffer) (wire : ℕ) → p .buffer .ring .slot < p .buffer .ring .cap
       → p .buffer .ring .cap ≤ p .buffer .ring .len
       → wire ≡ wireSizes c (take 1 (packetsOf (p .buffer .ring) ring))
-      → Removed (p .buffer) lost 1 (p .buffer .bytes - wire) r left
-      → work (record { buffer = r; made = p .made; removed = p .removed + 1; bytes = p .bytes + wire }) ring left
+      → Removed (p .buffer) lost 1 (p .buffer .bytes - wire) r
+      → work (record { buffer = r; made = p .made; removed = p .removed + 1; bytes = p .bytes + wire }) ring lost
       ≡ roomed c (work p ring lost)
   unfolding roomed makeRoom gone
-  room-full left r wire some full e R =
+  room-full r wire some full e R =
       let one : length (take 1 (packetsOf (p .buffer .ring) ring)) ≡ 1 =
       length-take 1 (packetsOf (p .buffer .ring) ring) ∙ omega (arith, packets-length (p .buffer .ring) ring) in
       rw (le-leb (p .buffer .ring .cap) (p .buffer .ring .len) full, one, ← e, ← R .is ring)

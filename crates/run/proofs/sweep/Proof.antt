@@ -7,8 +7,6 @@ use Rattle.run.specs.Run.Turns.{swept-none, swept-some, late-few}
 use borrow.Author.Needs.{needs}
 use Rattle.run.proofs.sweep.Statement.{statement}
 use Rattle.run.proofs.sweep.Tie as tie
-use Rattle.run.proofs.sweep.Reads as reads
-use Rattle.choice.proofs.late_packets.Reads as late-packets-reads
 
 late-packets-requires : tie.Need-late-packets-requires
 late-packets-requires c κs =
@@ -23,13 +21,13 @@ returns c = rw (c .progress .ensures) (swept-none _ _ _ _ _ _ _ (c .before .befo
 
 drop-too-late-packets-requires : tie.Need-drop-too-late-packets-requires
 drop-too-late-packets-requires c κs =
-    let s = c .before .before .before .before .before .before .before in
+    let s = c .before .before .before .before .before .before in
     let k = stands-facts (s .pre .ready .stands) (s .pre .ready .kept) in (
       record {
         cap = k .placed .cap;
         slot = k .placed .slot;
         len = k .placed .len;
-        some = late-few _ _ (s .args .b) (s .args .ring .now) [] [] _ (c .before .before .before .late-packets .ensures);
+        some = late-few _ _ (s .args .b) (s .args .ring .now) [] [] _ (c .before .before .late-packets .ensures);
         inside = k .inside;
       },
       (k .front, omega (arith, s .pre .room)),
@@ -41,11 +39,12 @@ progress-requires-2 c κs = search needs
 same-length : tie.Need-same-length
 same-length c = search needs
 
-same-length-2 : tie.Need-same-length-2
-same-length-2 c = search needs
-
 returns-2 : tie.Need-returns-2
-returns-2 c = rw (c .progress2 .ensures) (swept-some _ _ _ _ _ _ _ (c .before .before .before .before .before .before .before .before .before .late-packets .ensures) _ _ _ (c .before .before .before .before .before .before .before .before .if1 .left) (c .before .before .before .before .before .drop-too-late-packets .ensures))
+returns-2 c =
+    let d = c .before .before .before in
+    let f = d .before .before in
+    rw (c .progress2 .ensures)
+    (swept-some _ _ _ _ _ _ _ (f .before .late-packets .ensures) _ _ (f .if1 .left) (d .drop-too-late-packets .ensures))
 
 pub sweep-spec : {M : Type 1} → statement M
 sweep-spec =
@@ -57,5 +56,4 @@ sweep-spec =
     drop-too-late-packets-requires
     progress-requires-2
     same-length
-    same-length-2
     returns-2)

@@ -12,7 +12,6 @@ use Rattle.run.specs.Run.Turns.{done-by, turn-is, loss-some, due-inside,
 use borrow.Author.Needs.{needs}
 use Rattle.run.proofs.turn.Statement.{statement}
 use Rattle.run.proofs.turn.Tie as tie
-use Rattle.run.proofs.turn.Reads as reads
 
 first-rule-requires : tie.Need-first-rule-requires
 first-rule-requires c κs =
@@ -25,11 +24,11 @@ enum-told c = search needs
 
 send-next-lost-packet-requires : tie.Need-send-next-lost-packet-requires
 send-next-lost-packet-requires c κs =
-    let s = c .before .before .before .before .before .before .before .before .before .before in
-    (record { settings = _; ready = s .pre .ready; some = loss-some _ _ _ (state (s .args .b) (s .args .ring .now) (s .args .lost .now)) (sym (c .before .before .before .before .before .first-rule .ensures) ∙ c .before .before .before .enum-told .given .1); early = s .pre .early }, omega (arith, s .pre .room))
+    let s = c .before .before .before .before .before .before .before .before .before in
+    (record { settings = _; ready = s .pre .ready; some = loss-some _ _ _ (state (s .args .b) (s .args .ring .now) (s .args .lost .now)) (sym (c .before .before .before .before .first-rule .ensures) ∙ c .before .before .enum-told .given .1); early = s .pre .early }, omega (arith, s .pre .room))
 
 add-progress : tie.Need-add-progress
-add-progress c = let s = c .before .before .before .before .before .before .before .before .before .before .before .before .before .before .before .before .before in record { fits = omega (arith, s .pre .room, s .good .1 .1 .1 .1 .1 .1 .0) }
+add-progress c = let s = c .before .before .before .before .before .before .before .before .before .before .before .before .before .before in record { fits = omega (arith, s .pre .room, s .good .1 .1 .1 .1 .1 .1 .0) }
 
 progress-requires : tie.Need-progress-requires
 progress-requires c κs = search needs
@@ -76,11 +75,11 @@ enum-told-4 c = search needs
 
 flush-on-close-requires : tie.Need-flush-on-close-requires
 flush-on-close-requires c κs =
-    let s = c .before .before .before .before .before .before .before .before .before .before in
-    (record { ready = s .pre .ready; one = flush-one _ _ _ (state (s .args .b) (s .args .ring .now) (s .args .lost .now)) (sym (c .before .before .before .before .before .first-rule .ensures) ∙ c .before .before .before .enum-told4 .given .1) }, omega (arith, s .pre .room))
+    let s = c .before .before .before .before .before .before .before .before .before in
+    (record { ready = s .pre .ready; one = flush-one _ _ _ (state (s .args .b) (s .args .ring .now) (s .args .lost .now)) (sym (c .before .before .before .before .first-rule .ensures) ∙ c .before .before .enum-told4 .given .1) }, omega (arith, s .pre .room))
 
 add-progress-4 : tie.Need-add-progress-4
-add-progress-4 c = let s = c .before .before .before .before .before .before .before .before .before .before .before .before .before .before .before in record { fits = omega (arith, s .pre .room, s .good .1 .1 .1 .1 .1 .1 .0) }
+add-progress-4 c = let s = c .before .before .before .before .before .before .before .before .before .before .before .before in record { fits = omega (arith, s .pre .room, s .good .1 .1 .1 .1 .1 .1 .0) }
 
 progress-requires-5 : tie.Need-progress-requires-5
 progress-requires-5 c κs = search needs
@@ -103,21 +102,18 @@ same-length c = search needs
 same-length-2 : tie.Need-same-length-2
 same-length-2 c = search needs
 
-same-length-3 : tie.Need-same-length-3
-same-length-3 c = search needs
-
 returns : tie.Need-returns
 unfolding act lossTurn sentAs
 returns c =
     rw (c .progress .ensures)
-    (done-by _ _ _ _ _ _ _ _ _ (lossTurn _) false (turn-is _ _ _ _ rule.Loss (sym (c .before .before .before .before .before .before .before .before .before .before .before .before .before .first-rule .ensures) ∙ c .before .before .before .before .before .before .before .before .before .before .before .enum-told .given .1)) refl
-    (c .before .before .before .before .before .before .before .send-next-lost-packet .ensures))
+    (done-by _ _ _ _ _ _ _ _ _ (lossTurn _) false (turn-is _ _ _ _ rule.Loss (sym (c .before .before .before .before .before .before .before .before .before .before .first-rule .ensures) ∙ c .before .before .before .before .before .before .before .before .enum-told .given .1)) refl
+    (c .before .before .before .before .before .send-next-lost-packet .ensures))
+
+same-length-3 : tie.Need-same-length-3
+same-length-3 c = search needs
 
 same-length-4 : tie.Need-same-length-4
 same-length-4 c = search needs
-
-same-length-5 : tie.Need-same-length-5
-same-length-5 c = search needs
 
 returns-2 : tie.Need-returns-2
 unfolding act sentAs
@@ -126,11 +122,11 @@ returns-2 c =
     (done-by _ _ _ _ _ _ _ _ _ (dueTurn _ _) false (turn-is _ _ _ _ _ (sym (c .before .before .before .before .before .before .before .before .before .before .before .first-rule .ensures) ∙ c .before .before .before .before .before .before .before .before .before .i .given .1)) refl
     (c .before .before .before .before .before .send-next-rto-packet .ensures .is _))
 
+same-length-5 : tie.Need-same-length-5
+same-length-5 c = search needs
+
 same-length-6 : tie.Need-same-length-6
 same-length-6 c = search needs
-
-same-length-7 : tie.Need-same-length-7
-same-length-7 c = search needs
 
 returns-3 : tie.Need-returns-3
 unfolding act windowTurn
@@ -138,11 +134,11 @@ returns-3 c =
     rw (c .progress3 .ensures)
     (done-by _ _ _ _ _ _ _ _ _ windowTurn true (turn-is _ _ _ _ rule.Window (sym (c .before .before .before .before .before .before .before .first-rule .ensures) ∙ c .before .before .before .before .before .enum-told2 .given .1)) refl (c .before .before .before .wait-for-ack .ensures .is _ _))
 
+same-length-7 : tie.Need-same-length-7
+same-length-7 c = search needs
+
 same-length-8 : tie.Need-same-length-8
 same-length-8 c = search needs
-
-same-length-9 : tie.Need-same-length-9
-same-length-9 c = search needs
 
 returns-4 : tie.Need-returns-4
 unfolding act unsentTurn
@@ -150,26 +146,23 @@ returns-4 c =
     rw (c .progress4 .ensures)
     (done-by _ _ _ _ _ _ _ _ _ (unsentTurn _) false (turn-is _ _ _ _ rule.Unsent (sym (c .before .before .before .before .before .before .before .before .before .before .first-rule .ensures) ∙ c .before .before .before .before .before .before .before .before .enum-told3 .given .1)) refl (c .before .before .before .before .before .send-unsent .ensures .is _))
 
+same-length-9 : tie.Need-same-length-9
+same-length-9 c = search needs
+
 same-length-10 : tie.Need-same-length-10
 same-length-10 c = search needs
+
+returns-5 : tie.Need-returns-5
+unfolding act flushTurn
+returns-5 c =
+    rw (c .progress5 .ensures)
+    (done-by _ _ _ _ _ _ _ _ _ (flushTurn _) false (turn-is _ _ _ _ rule.Flush (sym (c .before .before .before .before .before .before .before .before .first-rule .ensures) ∙ c .before .before .before .before .before .before .enum-told4 .given .1)) refl (c .before .before .before .flush-on-close .ensures))
 
 same-length-11 : tie.Need-same-length-11
 same-length-11 c = search needs
 
 same-length-12 : tie.Need-same-length-12
 same-length-12 c = search needs
-
-returns-5 : tie.Need-returns-5
-unfolding act flushTurn
-returns-5 c =
-    rw (c .progress5 .ensures)
-    (done-by _ _ _ _ _ _ _ _ _ (flushTurn _) false (turn-is _ _ _ _ rule.Flush (sym (c .before .before .before .before .before .before .before .before .before .before .before .first-rule .ensures) ∙ c .before .before .before .before .before .before .before .before .before .enum-told4 .given .1)) refl (c .before .before .before .before .before .flush-on-close .ensures))
-
-same-length-13 : tie.Need-same-length-13
-same-length-13 c = search needs
-
-same-length-14 : tie.Need-same-length-14
-same-length-14 c = search needs
 
 returns-6 : tie.Need-returns-6
 unfolding act inputTurn
@@ -207,21 +200,19 @@ turn-spec =
     progress-requires-6
     same-length
     same-length-2
-    same-length-3
     returns
+    same-length-3
     same-length-4
-    same-length-5
     returns-2
+    same-length-5
     same-length-6
-    same-length-7
     returns-3
+    same-length-7
     same-length-8
-    same-length-9
     returns-4
+    same-length-9
     same-length-10
+    returns-5
     same-length-11
     same-length-12
-    returns-5
-    same-length-13
-    same-length-14
     returns-6)

@@ -5,49 +5,26 @@
 pub mod Whole
 use mathlib.Core.Path.{_≡_, refl, sym, ap, _∙_, subst}
 use mathlib.Core.Bool.{Bool, true, false, _&&_, cond}
-use mathlib.Core.List.{List, [], _∷_, _++_, append-nil}
+use mathlib.Core.List.{List, [], _∷_}
 use mathlib.Core.Option.{Option, none, some}
-use Prim.Native.Nat.{ℕ, zero, suc, _+_, _-_, _*_, _%_, _^_, _≤_, _<_, min}
-use native.Mathlib.Nat.{mod-add-mod, mod-eq-of-lt, add-mul-mod-self-left}
-use native.Mathlib.Decide.{decLt}
+use Prim.Native.Nat.{ℕ, suc, _+_, _-_, _^_, _≤_, _<_}
 use native.Mathlib.Omega.{arith}
 use lib.Dec.{ltb, eqb}
-use lib.ListN.{length, take, drop, getD, set}
-use lib.Seq.{slice}
+use lib.ListN.{length, take}
 use borrow.Author.Tests.{ltb-true, eqb-true}
-use Rattle.numbers.specs.Modular.{seqs, plus, dist}
-use Rattle.rtt.specs.declared.Rtt.{Rtt}
-use Rattle.ring.specs.declared.Entry.{Entry}
-use Rattle.ring.specs.Entry.{readE, writeE}
-use Rattle.ring.specs.Entry.Laws.{length-writeE}
-use Rattle.ring.specs.Ring.{slotOf}
-use Rattle.ring.specs.Ring.Laws.{Placed}
-use Rattle.losses.specs.LossList.Stands as losses
-use Rattle.losses.specs.LossList.Stands.{key-wire, wire-plus, stands-first, stands-pop, stands-length}
-use Rattle.losses.specs.LossList.Laws.{length-over, take-over}
-use Rattle.rules.specs.Numbers.{wire}
-use Rattle.rules.specs.Numbers.Laws.{wire-below}
-use Rattle.rules.specs.Settings.{Settings, capacity}
-use Rattle.rules.specs.Sender as rules
-use Rattle.rules.specs.Sender.{Packet, Sender, nothing, end, sentOf, packet, pushOf, remove, wireSizes}
-use Rattle.rules.specs.Books.Laws.{Ascends, Kept}
-use Rattle.rules.specs.Records.{Kind, Send, ByTime, ByLoss, Action, sendRecord, dropRecord}
+use Rattle.rules.specs.Settings.{Settings}
+use Rattle.rules.specs.Sender.{Packet, Sender, end, sentOf}
+use Rattle.rules.specs.Books.Laws.{Kept}
 use Rattle.rules.specs.Run as Rules
 use Rattle.rules.specs.Run.{Turn, earliest, orHere}
 use Rattle.rules.specs.Run.Laws.{isDue}
 use Rattle.rules.proofs.Frame.{and-r}
 use Rattle.rules.proofs.None.{due-some}
 use Rattle.rules.proofs.RunKept.{first-kept}
-use Rattle.buffer.specs.declared.SendBuffer.{SendBuffer}
-use Rattle.buffer.specs.State.{State, packetOf, packetsOf, view, lostOf, put}
-use Rattle.buffer.specs.State.Stands.{Stands, Others}
-use Rattle.buffer.specs.State.View.{packets-length, packets-at, packets-set}
-use Rattle.buffer.specs.State.Facts.{Facts, stands-facts}
+use Rattle.buffer.specs.State.{State}
+use Rattle.buffer.specs.State.Stands.{Stands}
 use Rattle.buffer.specs.State.Reports.{ltb-add}
-use Rattle.buffer.specs.Removal.{removed}
-use Rattle.buffer.specs.Removal.Laws.{stands-removed, lost-inside}
 use Rattle.choice.specs.Choice.{ruleBy, dueAt, ruleAt}
-use Rattle.sending.specs.Sending.{Turned, stamped, packetAt, numberAt, sentWords, dropped, sentAs, popped, lossTurn, dueTurn, windowTurn, nextTurn, isSixteenth, idle, sixteenTurn, unsentTurn, flushTurn, inputTurn}
 use Rattle.run.specs.Run.{act, turn}
 use Rattle.sending.specs.Sending.Stands.{TurnStands, few, stands-loss, stands-due, stands-window, stands-next, stands-unsent, stands-flush, stands-input}
 

@@ -10,14 +10,14 @@ use mathlib.Core.Bool.{Bool, true, false, _&&_, true≢false}
 use mathlib.Core.Option.{Option, none, some}
 use lib.Dec.{ltb, eqb}
 use borrow.Author.Tests.{ltb-true, eqb-true}
-use mathlib.Core.List.{List, [], _∷_, _++_}
+use mathlib.Core.List.{List}
 use Prim.Native.Nat.{ℕ, zero, suc, _+_, _-_, _*_, _^_, _≤_, _<_, min}
 use native.Mathlib.Omega.{arith}
 use lib.ListN.{length, length-append}
 use Rattle.rules.specs.Settings.{Settings}
 use Rattle.rules.specs.Sender.{Sender}
 use Rattle.rules.specs.Books.Laws.{Kept}
-use Rattle.rules.specs.Records.{Action, sends, isSend}
+use Rattle.rules.specs.Records.{Action, sends}
 use Rattle.rules.specs.Run as Rules
 use Rattle.rules.specs.Run.{Turn, Result, others, late}
 use Rattle.rules.specs.Run.Laws as rules
@@ -29,7 +29,7 @@ use Rattle.rules.proofs.RunKept.{others-kept, dropped-kept}
 use Rattle.rules.proofs.Split.{loop-end, loop-on}
 use Rattle.rules.proofs.Frame.{and-r}
 use Rattle.buffer.specs.declared.SendBuffer.{SendBuffer}
-use Rattle.buffer.specs.State.{State, state, packetsOf, view}
+use Rattle.buffer.specs.State.{State, state, packetsOf}
 use Rattle.buffer.specs.State.Facts.{stands-facts}
 use Rattle.choice.specs.declared.Rule.{Rule}
 use Rattle.choice.specs.declared.Rule.the-variants as rule
@@ -291,11 +291,11 @@ module _ (c : Settings) (now : ℕ) (b : SendBuffer) (ring lost out : List ℕ) 
   unfolding swept
   swept-none h = let z : late c now (packetsOf (b .ring) ring) ≡ 0 = sym e ∙ omega arith in record { is = λ draining m. rw z }
 
-  pub swept-some : (r : SendBuffer) (left list : List ℕ) → 1 ≤ k → Drops k b lost 0 out r left list → Swept c now (state b ring lost) out (state r ring left) 1 list
+  pub swept-some : (r : SendBuffer) (list : List ℕ) → 1 ≤ k → Drops k b lost 0 out r list → Swept c now (state b ring lost) out (state r ring lost) 1 list
   unfolding swept
-  swept-some r left list h D = go k e h D
+  swept-some r list h D = go k e h D
     where
-      go : (j : ℕ) → j ≡ late c now (packetsOf (b .ring) ring) → 1 ≤ j → Drops j b lost 0 out r left list → Swept c now (state b ring lost) out (state r ring left) 1 list
+      go : (j : ℕ) → j ≡ late c now (packetsOf (b .ring) ring) → 1 ≤ j → Drops j b lost 0 out r list → Swept c now (state b ring lost) out (state r ring lost) 1 list
       go zero p q A = absurd (omega arith)
       go (suc j) p q A = record {
         is = λ draining m.

@@ -6,7 +6,7 @@ use Rattle.sender.proofs.push.Statement.{statement}
 use Rattle.sender.proofs.push.Tie as tie
 
 push-message-requires : tie.Need-push-message-requires
-push-message-requires c κs = c .before .before .before .before .before .before .before .before .before .pre .sendable
+push-message-requires c κs = c .before .before .before .before .before .before .before .before .pre .sendable
 
 on-input-requires : tie.Need-on-input-requires
 on-input-requires c κs = search needs
@@ -20,14 +20,11 @@ same-length c = search needs
 same-length-2 : tie.Need-same-length-2
 same-length-2 c = search needs
 
-same-length-3 : tie.Need-same-length-3
-same-length-3 c = search needs
-
 returns : tie.Need-returns
 returns c =
     let q = c .before in
-    let p = q .before .before .before .before .before .before .before in
-    push-done _ _ _ _ _ (p .before .before .before .before .before .before .before .before .before .before .pre) _ _ _ _ _ _ (p .push-message .ensures) (q .on-input .ensures) (c .finished .ensures)
+    let p = q .before .before .before .before .before in
+    push-done _ _ _ _ _ (p .before .before .before .before .before .before .before .before .before .pre) _ _ _ _ _ _ (p .push-message .ensures) (q .on-input .ensures) (c .finished .ensures)
 
 pub push-spec : {M : Type 1} → statement M
 push-spec =
@@ -38,5 +35,4 @@ push-spec =
     finished-requires
     same-length
     same-length-2
-    same-length-3
     returns)

@@ -7,7 +7,6 @@ use Rattle.sender_run.specs.Runs.Laws.{runnable, run-done}
 use borrow.Author.Needs.{needs}
 use Rattle.sender_run.proofs.run.Statement.{statement}
 use Rattle.sender_run.proofs.run.Tie as tie
-use Rattle.sender_run.proofs.run.Reads as reads
 
 judge-run-requires : tie.Need-judge-run-requires
 judge-run-requires c κs = search needs
@@ -43,8 +42,10 @@ same-length-5 c = search needs
 returns-2 : tie.Need-returns-2
 unfolding run
 returns-2 c =
-    run-done _ _ _ _ _ _ _ _ _ _ _ (c .before .before .before .before .before .before .before .next-snd-actions .ensures)
-    ∙ answer-accepted _ _ _ _ (c .before .before .before .before .before .before .before .before .before .before .before .before .before .before .before .judge-run .ensures) (c .before .before .before .before .before .before .before .before .before .before .before .before .before .enum-told .given .1)
+    let ran = c .before .before .before .before .before in
+    let told = ran .before .before .before .before .before .before in
+    run-done _ _ _ _ _ _ _ _ _ _ _ (ran .next-snd-actions .ensures)
+    ∙ answer-accepted _ _ _ _ (told .before .before .judge-run .ensures) (told .enum-told .given .1)
 
 pub run-spec : {M : Type 1} → statement M
 run-spec =

@@ -4,7 +4,6 @@ use Rattle.sending.specs.Sending.Rules.{drop-acts}
 use borrow.Author.Needs.{needs}
 use Rattle.sending.proofs.drop_too_late_packets.Statement.{statement}
 use Rattle.sending.proofs.drop_too_late_packets.Tie as tie
-use Rattle.sending.proofs.drop_too_late_packets.Reads as reads
 
 cast-plus : tie.Need-cast-plus
 cast-plus c = search needs
@@ -21,13 +20,11 @@ remove-requires c κs = search needs
 same-length : tie.Need-same-length
 same-length c = search needs
 
-same-length-2 : tie.Need-same-length-2
-same-length-2 c = search needs
-
 returns : tie.Need-returns
 returns c =
-    let s = c .before .before .before .before .before .before .before .before .before .before .before .before in
-    drop-acts _ _ _ _ _ _ _ _ _ (s .pre .1 .0) (c .before .before .before .before .before .before .before .before .plus .ensures) (c .before .before .before .before .before .before .write .ensures) (c .before .before .remove .ensures)
+    let w = c .before .before .before in
+    let t = w .before .before in
+    drop-acts _ _ _ _ _ _ _ _ (t .before .before .before .before .pre .1 .0) (t .plus .ensures) (w .write .ensures) (c .remove .ensures)
 
 pub drop-too-late-packets-spec : {M : Type 1} → statement M
 drop-too-late-packets-spec =
@@ -38,5 +35,4 @@ drop-too-late-packets-spec =
     write-requires
     remove-requires
     same-length
-    same-length-2
     returns)

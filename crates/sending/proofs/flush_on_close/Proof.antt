@@ -6,7 +6,6 @@ use Rattle.sending.specs.Sending.Rules.{flush-acts}
 use borrow.Author.Needs.{needs}
 use Rattle.sending.proofs.flush_on_close.Statement.{statement}
 use Rattle.sending.proofs.flush_on_close.Tie as tie
-use Rattle.sending.proofs.flush_on_close.Reads as reads
 
 entry-requires : tie.Need-entry-requires
 entry-requires c κs = search needs
@@ -25,26 +24,30 @@ wire-sizes-requires c κs =
     }
 
 sub-remove : tie.Need-sub-remove
-sub-remove c = let s = c .before .before .before .before .before .before .before .before .before in rw (c .before .before .wire-sizes .ensures) (stands-covers (s .pre .0 .ready .stands) (s .pre .0 .ready .kept) 1)
+sub-remove c =
+    let w = c .before in
+    let s = w .before .before .before .before .before .before .before in
+    rw (w .wire-sizes .ensures) (stands-covers (s .pre .0 .ready .stands) (s .pre .0 .ready .kept) 1)
 
 remove-requires : tie.Need-remove-requires
 remove-requires c κs =
-    let s = c .before .before .before .before .before .before .before .before .before in
+    let s = c .before .before .before .before .before .before .before .before in
     let k = stands-facts (s .pre .0 .ready .stands) (s .pre .0 .ready .kept) in
     record { cap = k .placed .cap; slot = k .placed .slot; len = k .placed .len; some = s .pre .0 .one; inside = k .inside }
 
 send-record-requires : tie.Need-send-record-requires
 send-record-requires c κs =
-    let s = c .before .before .before .before .before .before .before .before .before .before .before .before in
+    let r = c .before .before .before in
+    let s = r .before .before .before .before .before .before in
     let S = s .pre .0 .ready .stands in
     let K = s .pre .0 .ready .kept in
     let e = stands-entry S K 0 (s .pre .0 .one) in
-    let is = c .before .before .before .before .before .before .entry .ensures in
+    let is = r .entry .ensures in
     let k = stands-facts S K in
     (rw is (e .time), rw is (e .message), rw is (omega (arith, e .len, k .settings .size)))
 
 write-requires : tie.Need-write-requires
-write-requires c κs = c .before .before .before .before .before .before .before .before .before .before .before .before .before .before .pre .1
+write-requires c κs = c .before .before .before .before .before .before .before .before .before .before .before .pre .1
 
 holding-requires : tie.Need-holding-requires
 holding-requires c κs = search needs
@@ -52,16 +55,18 @@ holding-requires c κs = search needs
 same-length : tie.Need-same-length
 same-length c = search needs
 
-same-length-2 : tie.Need-same-length-2
-same-length-2 c = search needs
-
 returns : tie.Need-returns
 returns c =
-    let s = c .before .before .before .before .before .before .before .before .before .before .before .before .before .before .before .before .before .before in
+    let w = c .before .before .before in
+    let r = w .before .before in
+    let m = r .before in
+    let z = m .before .before in
+    let e = z .before in
+    let s = e .before .before .before .before .before .before in
     let k = stands-facts (s .pre .0 .ready .stands) (s .pre .0 .ready .kept) in
     rw (c .holding .ensures)
-    (flush-acts _ _ _ _ _ _ _ _ _ _ _ _ (s .pre .0 .one) (k .front) (c .before .before .before .before .before .before .before .before .before .before .before .before .entry .ensures) (c .before .before .before .before .before .before .before .before .before .before .before .wire-sizes .ensures)
-    (c .before .before .before .before .before .before .before .before .remove .ensures) (c .before .before .before .before .before .send-record .ensures) (c .before .before .before .write .ensures))
+    (flush-acts _ _ _ _ _ _ _ _ _ _ _ (s .pre .0 .one) (k .front) (e .entry .ensures) (z .wire-sizes .ensures) (m .remove .ensures)
+    (r .send-record .ensures) (w .write .ensures))
 
 pub flush-on-close-spec : {M : Type 1} → statement M
 flush-on-close-spec =
@@ -75,5 +80,4 @@ flush-on-close-spec =
     write-requires
     holding-requires
     same-length
-    same-length-2
     returns)

@@ -1,15 +1,14 @@
--- `sending::send_next_lost_packet` meets its contract: the list's first number goes, and its packet is sent.
+-- `sending::send_next_lost_packet` meets its contract: the number nearest the front goes from the list, and its packet is sent.
 -- Assumes nothing.
 use Rattle.buffer.specs.State.Facts.{stands-facts}
 use Rattle.sending.specs.Sending.Rules.{losing-sendable, loss-acts}
 use borrow.Author.Needs.{needs}
 use Rattle.sending.proofs.send_next_lost_packet.Statement.{statement}
 use Rattle.sending.proofs.send_next_lost_packet.Tie as tie
-use Rattle.sending.proofs.send_next_lost_packet.Reads as reads
 
-pop-requires : tie.Need-pop-requires
-pop-requires c κs =
-    let s = c .before .before .before .before .before .before in
+nearest-requires : tie.Need-nearest-requires
+nearest-requires c κs =
+    let s = c .before .before .before .before .before in
     let k = stands-facts (s .pre .0 .ready .stands) (s .pre .0 .ready .kept) in
     record { some = s .pre .0 .some; inside = k .inside }
 
@@ -27,8 +26,11 @@ put-requires c κs = search needs
 
 send-packet-requires : tie.Need-send-packet-requires
 send-packet-requires c κs =
-    let s = c .before .before .before .before .before .before .before .before .before .before .before .before .before .before in
-    (losing-sendable _ _ _ _ _ _ _ _ (c .before .before .before .before .before .before .before .pop .ensures) (c .before .before .before .before .distance .ensures) (c .before .before .put .ensures) (s .pre .0), s .pre .1)
+    let p = c .before .before in
+    let d = p .before .before in
+    let f = d .before in
+    let s = f .before .before .before .before .before .before in
+    (losing-sendable _ _ _ _ _ _ _ (f .nearest .ensures) (d .distance .ensures) (p .put .ensures) (s .pre .0), s .pre .1)
 
 same-length : tie.Need-same-length
 same-length c = search needs
@@ -36,19 +38,18 @@ same-length c = search needs
 same-length-2 : tie.Need-same-length-2
 same-length-2 c = search needs
 
-same-length-3 : tie.Need-same-length-3
-same-length-3 c = search needs
-
 returns : tie.Need-returns
 returns c =
-    loss-acts _ _ _ _ _ _ _ _ (c .before .before .before .before .before .before .before .before .before .before .before .before .pop .ensures) (c .before .before .before .before .before .before .before .before .before .distance .ensures) (c .before .before .before .before .before .before .before .put .ensures) _ _ _ _ _
-    (c .before .before .before .before .send-packet .ensures)
+    let m = c .before .before .before .before in
+    let p = m .before .before .before in
+    let d = p .before .before in
+    loss-acts _ _ _ _ _ _ _ (d .before .nearest .ensures) (d .distance .ensures) (p .put .ensures) _ _ _ _ _ (m .send-packet .ensures)
 
 pub send-next-lost-packet-spec : {M : Type 1} → statement M
 send-next-lost-packet-spec =
     tie.close
     (tie.spec
-    pop-requires
+    nearest-requires
     distance-requires
     cast-i
     sub-put
@@ -56,5 +57,4 @@ send-next-lost-packet-spec =
     send-packet-requires
     same-length
     same-length-2
-    same-length-3
     returns)

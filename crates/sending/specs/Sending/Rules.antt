@@ -5,13 +5,13 @@
 --   unsent-acts, loss-acts, flush-acts, drop-acts, ack-waits, input-waits   rules 5, 2, 6, 1, 4 and 7
 -- Assumes nothing.
 use mathlib.Core.Path.{_≡_, refl, sym, ap, _∙_, subst}
-use mathlib.Core.Bool.{Bool, true, false, _&&_}
+use mathlib.Core.Bool.{true, false, _&&_}
 use mathlib.Core.List.{List, [], _∷_, _++_}
-use Prim.Native.Nat.{ℕ, zero, suc, _+_, _-_, _*_, _%_, _^_, _≤_, _<_}
+use Prim.Native.Nat.{ℕ, suc, _+_, _-_, _*_, _%_, _^_, _≤_, _<_}
 use native.Mathlib.Nat.{mod-eq-of-lt}
 use native.Mathlib.Omega.{arith}
 use lib.ListN.{length, take, getD, length-append}
-use lib.Seq.{slice, paste}
+use lib.Seq.{paste}
 use borrow.Author.Tests.{ltb-true}
 use lib.Dec.{ltb, eqb}
 use Rattle.numbers.specs.declared.SeqNumber.{SeqNumber}
@@ -20,7 +20,6 @@ use Rattle.numbers.specs.Modular.Laws.{plus-is}
 use Rattle.ring.specs.declared.Entry.{Entry}
 use Rattle.ring.specs.Entry.{readE}
 use Rattle.ring.specs.Ring.{slotOf}
-use Rattle.losses.specs.LossList.Laws as list
 use Rattle.records.specs.declared.Kind as kinds
 use Rattle.records.specs.declared.Kind.the-variants as variants
 use Rattle.records.specs.declared.Record.{Record}
@@ -34,15 +33,15 @@ use Rattle.rules.specs.Run as Rules
 use Rattle.rules.proofs.Frame.{and-r}
 use Rattle.rules.proofs.RunKept.{first-kept}
 use Rattle.buffer.specs.declared.SendBuffer.{SendBuffer}
-use Rattle.buffer.specs.State.{State, state, packetOf, packetsOf, view, put}
+use Rattle.buffer.specs.State.{State, state, packetOf, packetsOf, put}
 use Rattle.buffer.specs.State.Stands.{Stands, Ready}
-use Rattle.buffer.specs.State.Facts.{Facts, stands-facts, stands-entry}
+use Rattle.buffer.specs.State.Facts.{stands-facts, stands-entry}
 use Rattle.buffer.specs.State.View.{packets-at}
 use Rattle.buffer.specs.Removal.{removed}
-use Rattle.buffer.specs.Removal.Laws.{Removed, Removable, Weighable}
-use Rattle.sending.specs.Sending.{Turned, Acted, Acts, dropped, sentAs, popped, lossTurn, windowTurn, inputTurn, nextTurn, isSixteenth, sixteenTurn, unsentTurn, holding, flushTurn, written}
+use Rattle.buffer.specs.Removal.Laws.{Removed}
+use Rattle.sending.specs.Sending.{Turned, Acted, Acts, dropped, sentAs, popped, lossTurn, windowTurn, inputTurn, nextTurn, sixteenTurn, unsentTurn, holding, flushTurn, written}
 use Rattle.sending.specs.Sending.Laws.{Recorded, Sendable, Sixteen}
-use Rattle.sending.specs.Sending.Stands.{TurnStands, few, first-below, stands-next}
+use Rattle.sending.specs.Sending.Stands.{few, first-below, stands-next}
 
 -- whatever the loss list's words are
 pub record Standing (b : SendBuffer) (ring : List ℕ) : Type 0 where
@@ -60,8 +59,8 @@ pub record Flushable (c : Settings) (st : State) : Type 0 where
   pub ready : Ready c st
   pub one : 1 ≤ st .books .ring .len
 
-pub record Drops (k : ℕ) (b : SendBuffer) (lost : List ℕ) (n : ℕ) (out : List ℕ) (r : SendBuffer) (left list : List ℕ) : Type 0 where
-  pub is : (xs : List ℕ) → Acted (dropped k) (state b xs lost) n out (state r xs left) (n + 1) list
+pub record Drops (k : ℕ) (b : SendBuffer) (lost : List ℕ) (n : ℕ) (out : List ℕ) (r : SendBuffer) (list : List ℕ) : Type 0 where
+  pub is : (xs : List ℕ) → Acted (dropped k) (state b xs lost) n out (state r xs lost) (n + 1) list
 
 -- a rule that waits changes nothing but the list
 pub record Waits (tn : State → Turned) (b : SendBuffer) (n : ℕ) (out list : List ℕ) : Type 0 where
@@ -142,10 +141,10 @@ sixteen-after now b ring n out b₁ ring₁ m out₁ St h early A = record { rea
 
 -- ## Rule 2
 
-module _ (b : SendBuffer) (now : ℕ) (ring lost : List ℕ) (l : List ℕ) (first : SeqNumber) (i : ℕ) (rest : SendBuffer) (P : list.Popped (first .0) l (b .lost) lost)
+module _ (b : SendBuffer) (now : ℕ) (ring lost : List ℕ) (first : SeqNumber) (i : ℕ) (rest : SendBuffer) (is-last : first .0 ≡ getD lost (b .lost - 1) 0)
     (at : i ≡ dist seqs (b .front .0) (first .0)) (is : rest ≡ put b (b .ring) (b .front .0) (b .sent) (b .lost - 1) (b .bytes)) where
-  place : i ≡ dist seqs (b .front .0) (getD lost 0 0)
-  place = at ∙ ap (dist seqs (b .front .0)) (P .number)
+  place : i ≡ dist seqs (b .front .0) (getD lost (b .lost - 1) 0)
+  place = at ∙ ap (dist seqs (b .front .0)) is-last
 
   pub losing-sendable : Losing b now ring lost → Sendable rest i now ring
   losing-sendable L =
@@ -166,30 +165,30 @@ module _ (b : SendBuffer) (now : ℕ) (ring lost : List ℕ) (l : List ℕ) (fir
       })
 
   pub loss-acts : (n : ℕ) (out : List ℕ) (r : SendBuffer) (words left : List ℕ) → Acts (sentAs ByLoss now i (b .sent)) rest ring n out r words (n + 1) left
-      → Acted (lossTurn now) (state b ring lost) n out (state r words l) (n + 1) left
+      → Acted (lossTurn now) (state b ring lost) n out (state r words lost) (n + 1) left
   unfolding lossTurn popped
   loss-acts n out r words left A =
-      let st : state rest ring l ≡ popped (state b ring lost) = rw (is, P .area) in
-      let a = subst (λ (j : ℕ). Acted (sentAs ByLoss now j (b .sent)) (state rest ring l) n out (state r words l) (n + 1) left) place (A .is l) in
-      let d = subst (λ (x : State). Acted (sentAs ByLoss now (dist seqs (b .front .0) (getD lost 0 0)) (b .sent)) x n out (state r words l) (n + 1) left) st a in
+      let st : state rest ring lost ≡ popped (state b ring lost) = rw is in
+      let a = subst (λ (j : ℕ). Acted (sentAs ByLoss now j (b .sent)) (state rest ring lost) n out (state r words lost) (n + 1) left) place (A .is lost) in
+      let d = subst (λ (x : State). Acted (sentAs ByLoss now (dist seqs (b .front .0) (getD lost (b .lost - 1) 0)) (b .sent)) x n out (state r words lost) (n + 1) left) st a in
       record { state = d .state; count = d .count; list = d .list }
 
 -- ## Rule 6
 
-pub flush-acts : (c : Settings) (b : SendBuffer) (ring lost : List ℕ) (n : ℕ) (out : List ℕ) (e : Entry) (gone : ℕ) (r : SendBuffer) (left : List ℕ) (a : Record) (list : List ℕ)
+pub flush-acts : (c : Settings) (b : SendBuffer) (ring lost : List ℕ) (n : ℕ) (out : List ℕ) (e : Entry) (gone : ℕ) (r : SendBuffer) (a : Record) (list : List ℕ)
     → 0 < b .ring .len
     → b .front .0 < 2 ^ 31
     → e ≡ readE ring (slotOf (b .ring) 0)
     → gone ≡ wireSizes c (take 1 (packetsOf (b .ring) ring))
-    → Removed b lost 1 (b .bytes - gone) r left
+    → Removed b lost 1 (b .bytes - gone) r
     → Recorded Send (b .front .0) e a
     → list ≡ paste out (n * 24) (encode (actionOf a)) 24
-    → Acted (flushTurn c) (state b ring lost) n out (state (holding (b .front) (b .ring .slot) (e .len) r) ring left) (n + 1) list
+    → Acted (flushTurn c) (state b ring lost) n out (state (holding (b .front) (b .ring .slot) (e .len) r) ring lost) (n + 1) list
 unfolding flushTurn written packetOf
-flush-acts c b ring lost n out e gone r left a list h small p q R A o =
+flush-acts c b ring lost n out e gone r a list h small p q R A o =
     let front : getD (packetsOf (b .ring) ring) 0 nothing ≡ packetOf e = packets-at (b .ring) ring 0 h ∙ ap packetOf (sym p) in
-    let st : state r ring left ≡ removed 1 (b .bytes - wireSizes c (take 1 (packetsOf (b .ring) ring))) (state b ring lost) =
-    subst (λ (g : ℕ). state r ring left ≡ removed 1 (b .bytes - g) (state b ring lost)) q (R .is ring) in
+    let st : state r ring lost ≡ removed 1 (b .bytes - wireSizes c (take 1 (packetsOf (b .ring) ring))) (state b ring lost) =
+    subst (λ (g : ℕ). state r ring lost ≡ removed 1 (b .bytes - g) (state b ring lost)) q (R .is ring) in
     let zero-on : b .front .0 + 0 ≡ b .front .0 = omega arith in
     let number : b .front .0 ≡ wire (b .front .0 + 0) = sym (ap wire zero-on ∙ mod-eq-of-lt small) in
     let held : ℕ → State → State = λ k x. state (holding (b .front) (b .ring .slot) k (x .books)) (x .ring) (x .lost) in
@@ -209,13 +208,13 @@ flush-acts c b ring lost n out e gone r left a list h small p q R A o =
 abbrev pub plain : kinds.Kind → ℕ → ℕ → ℕ → Record
 plain k number word stamp = record { kind = k; flags = 0; len = 0; number = number; word = word; stamp = stamp; time = 0 }
 
-pub drop-acts : (k : ℕ) (b : SendBuffer) (lost : List ℕ) (n : ℕ) (out : List ℕ) (to : SeqNumber) (r : SendBuffer) (left list : List ℕ) → b .front .0 < 2 ^ 31
+pub drop-acts : (k : ℕ) (b : SendBuffer) (lost : List ℕ) (n : ℕ) (out : List ℕ) (to : SeqNumber) (r : SendBuffer) (list : List ℕ) → b .front .0 < 2 ^ 31
     → to .0 ≡ plus seqs (b .front .0) k
     → list ≡ paste out (n * 24) (encode (actionOf (plain variants.Drop (b .front .0) (to .0) 0))) 24
-    → Removed b lost k (b .bytes) r left
-    → Drops k b lost n out r left list
+    → Removed b lost k (b .bytes) r
+    → Drops k b lost n out r list
 unfolding dropped written dropRecord
-drop-acts k b lost n out to r left list small e o R = record {
+drop-acts k b lost n out to r list small e o R = record {
   is = λ xs.
       record {
         state = R .is xs;

@@ -8,25 +8,20 @@
 use mathlib.Core.Path.{_≡_, refl, sym, ap, _∙_, subst}
 use mathlib.Core.Bool.{Bool, true, false, _&&_, cond}
 use mathlib.Core.List.{List, [], _∷_, _++_, append-nil}
-use mathlib.Core.Option.{Option, none, some}
-use Prim.Native.Nat.{ℕ, zero, suc, _+_, _-_, _*_, _%_, _^_, _≤_, _<_, min}
+use Prim.Native.Nat.{ℕ, suc, _+_, _-_, _*_, _%_, _^_, _≤_, _<_}
 use native.Mathlib.Nat.{mod-add-mod, mod-eq-of-lt, add-mul-mod-self-left}
-use native.Mathlib.Decide.{decLt}
 use native.Mathlib.Omega.{arith}
 use lib.Dec.{ltb, eqb}
-use lib.ListN.{length, take, drop, getD, set}
-use lib.Seq.{slice}
-use borrow.Author.Tests.{ltb-true, eqb-true}
+use lib.ListN.{length, take, getD, set}
+use borrow.Author.Tests.{ltb-true}
 use Rattle.numbers.specs.Modular.{seqs, plus, dist}
 use Rattle.rtt.specs.declared.Rtt.{Rtt}
 use Rattle.ring.specs.declared.Entry.{Entry}
-use Rattle.ring.specs.Entry.{readE, writeE}
+use Rattle.ring.specs.Entry.{readE}
 use Rattle.ring.specs.Entry.Laws.{length-writeE}
 use Rattle.ring.specs.Ring.{slotOf}
-use Rattle.ring.specs.Ring.Laws.{Placed}
 use Rattle.losses.specs.LossList.Stands as losses
-use Rattle.losses.specs.LossList.Stands.{key-wire, wire-plus, stands-first, stands-pop, stands-length}
-use Rattle.losses.specs.LossList.Laws.{length-over, take-over}
+use Rattle.losses.specs.LossList.Stands.{key-wire, wire-plus, stands-first, stands-pop}
 use Rattle.rules.specs.Numbers.{wire}
 use Rattle.rules.specs.Numbers.Laws.{wire-below}
 use Rattle.rules.specs.Settings.{Settings, capacity}
@@ -37,15 +32,14 @@ use Rattle.rules.specs.Records.{Kind, Send, ByTime, ByLoss, Action, sendRecord,
 use Rattle.rules.specs.Run as Rules
 use Rattle.rules.specs.Run.{Turn}
 use Rattle.rules.proofs.Frame.{and-r}
-use Rattle.buffer.specs.declared.SendBuffer.{SendBuffer}
-use Rattle.buffer.specs.State.{State, packetOf, packetsOf, view, lostOf, put}
-use Rattle.buffer.specs.State.Stands.{Stands, Others}
+use Rattle.buffer.specs.State.{State, packetOf, packetsOf, view, lostOf}
+use Rattle.buffer.specs.State.Stands.{Stands}
 use Rattle.buffer.specs.State.View.{packets-length, packets-at, packets-set, places-set}
 use Rattle.buffer.specs.State.Facts.{Facts, stands-facts}
 use Rattle.buffer.specs.State.Reports.{ltb-add}
 use Rattle.buffer.specs.Removal.{removed}
 use Rattle.buffer.specs.Removal.Laws.{stands-removed, lost-inside}
-use Rattle.sending.specs.Sending.{Turned, stamped, packetAt, numberAt, sentWords, dropped, sentAs, popped, lossTurn, dueTurn, windowTurn, nextTurn, isSixteenth, idle, sixteenTurn, unsentTurn, flushTurn, inputTurn}
+use Rattle.sending.specs.Sending.{Turned, stamped, packetAt, numberAt, sentWords, dropped, sentAs, nearest, popped, lossTurn, dueTurn, windowTurn, nextTurn, isSixteenth, idle, sixteenTurn, unsentTurn, flushTurn, inputTurn}
 
 pub record TurnStands (c : Settings) (t : Turned) (u : Turn) : Type 0 where
   pub state : Stands c (t .state) (u .after)
@@ -142,24 +136,18 @@ module _ {c : Settings} {st : State} {s : Sender} (S : Stands c st s) where
     whole : losses.Stands (x ∷ xs) (s .front) (lostOf st)
     whole = subst (λ (l : List ℕ). losses.Stands l (s .front) (lostOf st)) e (S .lost)
 
-    rest : losses.Stands xs (s .front) (slice 1 (st .books .lost) (st .lost))
-    rest = stands-pop (st .books .lost) (st .lost) whole
-
-    one-less : st .books .lost - 1 ≡ length (slice 1 (st .books .lost) (st .lost))
-    one-less = let n : st .books .lost ≡ suc (length xs) = S .count ∙ ap length e in omega (arith, n, stands-length rest)
-
     stands-popped : Stands c (popped st) shorter
     unfolding popped
     stands-popped = record {
       placed = S .placed;
       cap = S .cap;
-      room = rw (length-over (slice 1 (st .books .lost) (st .lost)) (st .lost) (omega (arith, one-less, lost-inside S))) (S .room);
+      room = S .room;
       packets = S .packets;
       places = S .places;
       front = S .front;
       next = S .next;
-      count = one-less ∙ stands-length rest;
-      lost = rw (one-less, take-over (slice 1 (st .books .lost) (st .lost)) (st .lost)) rest;
+      count = let n : st .books .lost ≡ suc (length xs) = S .count ∙ ap length e in omega (arith, n);
+      lost = stands-pop (st .books .lost) (st .lost) (lost-inside S) whole;
       bytes = S .bytes;
       others = S .others;
       turns = S .turns;
@@ -176,9 +164,9 @@ module _ {c : Settings} {st : State} {s : Sender} (S : Stands c st s) (K : Kept 
     inside : (s .front ≤ x) × (x < s .next)
     inside = let a : Ascends (s .front) (s .next) (x ∷ xs) = rw e at (K .good .lost) in (a .0, a .1)
 
-    place-is : dist seqs (st .books .front .0) (getD (st .lost) 0 0) ≡ x - s .front
+    place-is : dist seqs (st .books .front .0) (nearest st) ≡ x - s .front
     place-is =
-        rw (S .front, stands-first (st .books .lost) (st .lost) (whole S x xs e) .1)
+        rw (S .front, stands-first (st .books .lost) (st .lost) (lost-inside S) (whole S x xs e) .1)
         (key-wire (s .front) x (inside .0) (omega (arith, inside .1, S .next, f .sent, f .placed .len, f .placed .cap)))
 
     pub stands-loss : TurnStands c (lossTurn now st) (Rules.send c now draining ByLoss x (s .next) xs s)
@@ -288,10 +276,10 @@ module _ {c : Settings} (now : ℕ) (draining : Bool) where
 
 -- the loss list's first number is one of the sent ones
 pub first-below : {c : Settings} {st : State} {s : Sender} → Stands c st s → Kept c s → 0 < st .books .lost
-    → dist seqs (st .books .front .0) (getD (st .lost) 0 0) < st .books .sent
+    → dist seqs (st .books .front .0) (nearest st) < st .books .sent
 first-below {c} {st} {s} S K h = go (s .lost) refl
   where
-    go : (l : List ℕ) → s .lost ≡ l → dist seqs (st .books .front .0) (getD (st .lost) 0 0) < st .books .sent
+    go : (l : List ℕ) → s .lost ≡ l → dist seqs (st .books .front .0) (nearest st) < st .books .sent
     go [] e = absurd (omega (arith, h, S .count, ap length e))
     go (x ∷ xs) e =
         let i = inside S K 0 false x xs e in

@@ -1,10 +1,9 @@
 -- `buffer::SendBuffer::remove` meets its contract: its parts make `removed` whole.
 -- Assumes nothing.
 use borrow.Author.Needs.{needs}
-use Rattle.buffer.specs.Removal.Laws.{gone-few, removed-is}
+use Rattle.buffer.specs.Removal.Laws.{removed-is}
 use Rattle.buffer.proofs.SendBuffer.remove.Statement.{statement}
 use Rattle.buffer.proofs.SendBuffer.remove.Tie as tie
-use Rattle.buffer.proofs.SendBuffer.remove.Reads as reads
 
 cast-plus : tie.Need-cast-plus
 cast-plus c = search needs
@@ -24,21 +23,14 @@ cast-less c = search needs
 less-requires : tie.Need-less-requires
 less-requires c κs = search needs
 
-sub-put : tie.Need-sub-put
-sub-put c =
-    gone-few _ _ _ _ _ _ (c .before .before .before .before .before .remove-below .ensures)
-
 put-requires : tie.Need-put-requires
 put-requires c κs = search needs
-
-same-length : tie.Need-same-length
-same-length c = search needs
 
 returns : tie.Need-returns
 returns c =
     rw (c .put .ensures)
-    (removed-is _ _ _ _ _ _ _ _ _ (c .before .before .before .before .before .before .before .before .plus .ensures)
-    (c .before .before .before .before .before .before .remove-below .ensures) (c .before .before .before .remove-front .ensures) (c .before .before .less .ensures))
+    (removed-is _ _ _ _ _ _ _ _ (c .before .before .before .before .plus .ensures) (c .before .before .before .remove-below .ensures)
+    (c .before .before .remove-front .ensures) (c .before .less .ensures))
 
 pub remove-spec : {M : Type 1} → statement M
 remove-spec =
@@ -50,7 +42,5 @@ remove-spec =
     remove-front-requires
     cast-less
     less-requires
-    sub-put
     put-requires
-    same-length
     returns)

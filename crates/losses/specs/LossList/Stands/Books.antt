@@ -1,90 +1,89 @@
 -- The book rules of the loss list, in the area and in the rules; and the room that sent numbers have.
 --   stands-keeps, keeps-stands      the area's check is that of the rules, both ways: a list that keeps them stands for the numbers `seen`
+--   keeps-ascends                   and those ascend, as the rules ask
 --   entered-ascends, ascends-few    numbers between two bounds enter a list between them; such a list is no longer than they are apart
 --   enter-fits                      sent numbers have room in an area of as many elements
 -- Assumes nothing.
 use mathlib.Core.Path.{_≡_, refl, sym, ap, _∙_}
-use mathlib.Core.Bool.{Bool, true, false, _&&_, cond, and-eq-true-iff}
-use mathlib.Core.List.{List, [], _∷_, map}
+use mathlib.Core.Bool.{true, and-eq-true-iff}
+use mathlib.Core.List.{List, [], _∷_, _++_, append-nil}
 use Prim.Native.Nat.{ℕ, zero, suc, _+_, _-_, _^_, _≤_, _<_, zero-le}
-use native.Mathlib.Decide.{decLt, decLe}
 use native.Mathlib.Omega.{arith}
-use lib.Dec.{lit<, ltb, leb, eqb}
+use lib.Dec.{ltb}
 use lib.ListN.{length, take}
-use borrow.Author.Tests.{lt-ltb, le-ltb, le-leb, lt-leb, ltb-true, ltb-false, eqb-false}
+use lib.Seq.{append-snoc}
+use borrow.Author.Tests.{lt-ltb, le-leb, ltb-true}
 use Rattle.numbers.specs.Modular.{seqs}
-use Rattle.numbers.specs.Modular.Laws.{plus-dist, dist-below}
+use Rattle.numbers.specs.Modular.Laws.{plus-dist}
 use Rattle.rules.specs.Numbers.{wire}
 use Rattle.rules.specs.Numbers.Laws.{wire-below}
 use Rattle.rules.specs.Sender as rules
 use Rattle.rules.specs.Losses as losses
 use Rattle.rules.specs.Books as books
 use Rattle.rules.specs.Books.Laws.{Ascends}
-use Rattle.losses.specs.LossList.{entered, inOrder, ascends}
+use Rattle.rules.proofs.Lists.{widen, insert-ascends}
+use Rattle.losses.specs.LossList.{entered, inOrder, descends}
 use Rattle.losses.specs.LossList.Laws.{Fits}
-use Rattle.losses.specs.LossList.Stands.{keyOf, Near, Stands, seen, key-wire, wire-plus, stands-none, stands-length, stands-entered}
+use Rattle.losses.specs.LossList.Stands.{keyOf, farFirst, Stands, seen, key-wire, wire-plus, stands-length, stands-entered}
 
 -- ## The book rules
 
--- the bounds of a number, seen from f
-leb-less : (f n lo : ℕ) → f ≤ n → leb lo (n - f) ≡ leb (f + lo) n
-leb-less f n lo h = go (decLe (f + lo) n)
-  where
-    go : Dec (f + lo ≤ n) → leb lo (n - f) ≡ leb (f + lo) n
-    go (yes l) = le-leb lo (n - f) (omega arith) ∙ sym (le-leb (f + lo) n l)
-    go (no l) = lt-leb lo (n - f) (omega arith) ∙ sym (lt-leb (f + lo) n (omega arith))
+facts-ascends : (lo hi : ℕ) (xs : List ℕ) → Ascends lo hi xs → books.ascends lo hi xs ≡ true
+unfolding books.ascends
+facts-ascends lo hi [] a = refl
+facts-ascends lo hi (x ∷ xs) a = rw (le-leb lo x (a .0), lt-ltb x hi (a .1)) (facts-ascends (suc x) hi xs (a .2))
 
-ltb-within : (f n hi : ℕ) → f ≤ n → ltb (n - f) hi ≡ ltb n (f + hi)
-ltb-within f n hi h = go (decLt n (f + hi))
-  where
-    go : Dec (n < f + hi) → ltb (n - f) hi ≡ ltb n (f + hi)
-    go (yes l) = lt-ltb (n - f) hi (omega arith) ∙ sym (lt-ltb n (f + hi) l)
-    go (no l) = le-ltb (n - f) hi (omega arith) ∙ sym (le-ltb n (f + hi) (omega arith))
+-- a list in order, behind numbers that all lie farther
+descends-past : (f lo hi : ℕ) (lost r : List ℕ) → f ≤ lo → lo ≤ f + hi → hi ≤ 2 ^ 31 → Ascends lo (f + hi) lost
+    → ((b : ℕ) → lo ≤ f + b → descends (keyOf f) b r ≡ true) → descends (keyOf f) hi (farFirst lost ++ r) ≡ true
+unfolding descends
+descends-past f lo hi [] r p q t a down = down hi q
+descends-past f lo hi (x ∷ xs) r p q t a down =
+    rw (append-snoc (farFirst xs) (wire x) r)
+    (descends-past f (suc x) hi xs (wire x ∷ r) (omega (arith, a .0)) (omega (arith, a .1)) t (a .2)
+    (λ b h. rw (key-wire f x (omega (arith, a .0)) (omega (arith, a .1)), lt-ltb (wire x) seqs (wire-below x), lt-ltb (x - f) b (omega (arith, a .0)))
+    (down (x - f) (omega (arith, a .0)))))
 
-regroup : (a b d : Bool) → ((true && (a && b)) && d) ≡ (a && (b && d))
-regroup true b d = refl
-regroup false b d = refl
+pub stands-keeps : (hi : ℕ) {lost : List ℕ} {f : ℕ} {xs : List ℕ} → hi ≤ 2 ^ 31 → Stands lost f xs → Ascends f (f + hi) lost → descends (keyOf f) hi xs ≡ true
+unfolding descends
+stands-keeps hi {lost} {f} t S a =
+    ap (descends (keyOf f) hi) (S .is ∙ sym (append-nil (farFirst lost))) ∙ descends-past f f hi lost [] (omega arith) (omega arith) t a (λ b h. refl)
 
-ascends-wire : (f lo hi : ℕ) (lost : List ℕ) → Near f lost → ascends (keyOf f) lo hi (map wire lost) ≡ books.ascends (f + lo) (f + hi) lost
-unfolding ascends books.ascends
-ascends-wire f lo hi [] a = refl
-ascends-wire f lo hi (x ∷ xs) a =
-    let next : f + suc (x - f) ≡ suc x = omega arith in
-    rw (key-wire f x (a .0) (a .1), lt-ltb (wire x) seqs (wire-below x), leb-less f x lo (a .0), ltb-within f x hi (a .0))
-    (ap (λ (t : Bool). (true && (leb (f + lo) x && ltb x (f + hi))) && t) (ascends-wire f (suc (x - f)) hi xs (a .2) ∙ rw next)
-    ∙ regroup (leb (f + lo) x) (ltb x (f + hi)) (books.ascends (suc x) (f + hi) xs))
+-- one number more at the far end
+far-snoc : (n : ℕ) (lost : List ℕ) → farFirst (lost ++ (n ∷ [])) ≡ wire n ∷ farFirst lost
+far-snoc n [] = refl
+far-snoc n (x ∷ xs) = ap (λ (l : List ℕ). l ++ (wire x ∷ [])) (far-snoc n xs)
 
-pub stands-keeps : (hi : ℕ) {lost : List ℕ} {f : ℕ} {xs : List ℕ} → Stands lost f xs → ascends (keyOf f) 0 hi xs ≡ books.ascends f (f + hi) lost
-stands-keeps hi {lost} {f} S =
-    let e : f + 0 ≡ f = omega arith in
-    ap (ascends (keyOf f) 0 hi) (S .is) ∙ ascends-wire f 0 hi lost (S .near) ∙ rw e
+ascends-snoc : (lo hi n : ℕ) (xs : List ℕ) → lo ≤ n → n < hi → Ascends lo n xs → Ascends lo hi (xs ++ (n ∷ []))
+ascends-snoc lo hi n [] p q a = (p, q, tt)
+ascends-snoc lo hi n (x ∷ xs) p q a = (a .0, omega (arith, a .1), ascends-snoc (suc x) hi n xs (a .1) q (a .2))
 
-pub keeps-stands : (f lo hi : ℕ) (xs : List ℕ) → ascends (keyOf f) lo hi xs ≡ true → Stands (seen f xs) f xs
-unfolding ascends
-keeps-stands f lo hi [] e = stands-none f
-keeps-stands f lo hi (y ∷ ys) e =
+record Seen (f hi : ℕ) (xs : List ℕ) : Type 0 where
+  pub is : xs ≡ farFirst (seen f xs)
+  pub ordered : Ascends f (f + hi) (seen f xs)
+
+keeps-seen : (f hi : ℕ) (xs : List ℕ) → descends (keyOf f) hi xs ≡ true → Seen f hi xs
+unfolding descends
+keeps-seen f hi [] e = record { is = refl; ordered = tt }
+keeps-seen f hi (y ∷ ys) e =
     let k : ℕ = keyOf f y in
-    let both = and-eq-true-iff (inOrder lo hi k y) (ascends (keyOf f) (suc k) hi ys) .0 e in
-    let small : y < seqs = ltb-true y seqs (and-eq-true-iff (ltb y seqs) (leb lo k && ltb k hi) .0 (both .0) .0) in
-    let back : wire (f + k) ≡ y = sym (wire-plus f k) ∙ plus-dist seqs (wire f) y small in
-    let rest = keeps-stands f (suc k) hi ys (both .1) in
+    let both = and-eq-true-iff (inOrder hi k y) (descends (keyOf f) k ys) .0 e in
+    let one = and-eq-true-iff (ltb y seqs) (ltb k hi) .0 (both .0) in
+    let back : wire (f + k) ≡ y = sym (wire-plus f k) ∙ plus-dist seqs (wire f) y (ltb-true y seqs (one .0)) in
+    let rest = keeps-seen f k ys (both .1) in
     record {
-      is = rw back (ap (λ (l : List ℕ). y ∷ l) (rest .is));
-      near = (omega arith, omega (arith, dist-below seqs (wire f) y (lit< tt)), rest .near);
+      is = rw (far-snoc (f + k) (seen f ys), back) (ap (λ (l : List ℕ). y ∷ l) (rest .is));
+      ordered = ascends-snoc f (f + hi) (f + k) (seen f ys) (omega arith) (let h = ltb-true k hi (one .1) in omega arith) (rest .ordered);
     }
 
--- ## Room
+module _ (f hi : ℕ) (xs : List ℕ) (e : descends (keyOf f) hi xs ≡ true) where
+  pub keeps-stands : hi ≤ 2 ^ 31 → Stands (seen f xs) f xs
+  keeps-stands t = let s = keeps-seen f hi xs e in record { is = s .is; ordered = widen (seen f xs) (omega arith) (omega arith) (s .ordered) }
 
-insert-ascends : (lo hi n : ℕ) (xs : List ℕ) → lo ≤ n → n < hi → Ascends lo hi xs → Ascends lo hi (rules.insert n xs)
-unfolding rules.insert
-insert-ascends lo hi n [] p q h = (p, q, tt)
-insert-ascends lo hi n (x ∷ xs) p q h = go (ltb n x) refl (eqb n x) refl (λ r. insert-ascends (suc x) hi n xs r q (h .2))
-  where
-    go : (b : Bool) → ltb n x ≡ b → (d : Bool) → eqb n x ≡ d → (suc x ≤ n → Ascends (suc x) hi (rules.insert n xs))
-        → Ascends lo hi (cond b (n ∷ x ∷ xs) (cond d (x ∷ xs) (x ∷ rules.insert n xs)))
-    go true e d f ih = (p, q, (ltb-true n x e, h .1, h .2))
-    go false e true f ih = h
-    go false e false f ih = (h .0, h .1, ih (omega (arith, ltb-false n x e, eqb-false n x f)))
+  pub keeps-ascends : books.ascends f (f + hi) (seen f xs) ≡ true
+  keeps-ascends = facts-ascends f (f + hi) (seen f xs) (keeps-seen f hi xs e .ordered)
+
+-- ## Room
 
 pub entered-ascends : (lo hi n k : ℕ) (xs : List ℕ) → lo ≤ n → n + k ≤ hi → Ascends lo hi xs → Ascends lo hi (losses.entered n k xs)
 unfolding losses.entered

@@ -38,7 +38,7 @@ same-length-2 c = search needs
 returns-2 : tie.Need-returns-2
 unfolding ack
 returns-2 c =
-    let done = c .before .before .before in
+    let done = c .before in
     let told = done .before .before in
     ack-done _ _ _ _ _ _ _ (done .update-largest-acked-seq-number .ensures) (c .acknowledge .ensures)
     ∙ answer-accepted _ _ _ _ (told .before .before .judge-ack .ensures) (told .enum-told .given .1)

@@ -44,7 +44,7 @@ same-length-5 c = search needs
 returns-2 : tie.Need-returns-2
 unfolding message
 returns-2 c =
-    let p = c .before .before .before .before .before .before in
+    let p = c .before .before .before .before in
     let told = p .before .before .before .before in
     p .push .ensures ∙ answer-accepted _ _ _ _ (told .before .before .judge-message .ensures) (told .enum-told .given .1)
 
