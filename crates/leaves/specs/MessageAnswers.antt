@@ -1,15 +1,11 @@
--- The answers of splitting as numbers, and a packet's place from its bits.
---   placeOf bits   the place that the low two bits stand for: 00 middle, 01 last, 10 first, 11 only one
+-- The answers of splitting as numbers.
 --   packetsOf a    of the number of packets: 0 and how many, or the refusal's number
 --   nothing n      no packet, with refusal n or 0
 --   pieceOf a      of one packet: 0, that it was found, its place's bits, start and length; 0 and nothing found; or the refusal's number
 -- Assumes nothing.
-use mathlib.Core.Bool.{true, false, cond}
-use Prim.Native.Nat.{ℕ, _%_}
-use lib.Dec.{eqb}
+use mathlib.Core.Bool.{true, false}
+use Prim.Native.Nat.{ℕ}
 use Rattle.refusals.specs.Table.{numberOf}
-use Rattle.encapsulate.specs.declared.Place.{Place}
-use Rattle.encapsulate.specs.declared.Place.the-variants.{First, Middle, Last, Only}
 use Rattle.encapsulate.specs.declared.Split.{Split}
 use Rattle.encapsulate.specs.declared.Split.the-variants as made
 use Rattle.encapsulate.specs.declared.Cutting.{Cutting}
@@ -17,9 +13,6 @@ use Rattle.encapsulate.specs.declared.Cutting.the-variants as cutting
 use Rattle.encapsulate.specs.Header.{placeBits}
 use Rattle.leaves.specs.declared.of_message.PacketsAnswer.{PacketsAnswer}
 use Rattle.leaves.specs.declared.of_message.PieceAnswer.{PieceAnswer}
-
-unfoldable pub placeOf : ℕ → Place
-placeOf bits = cond (eqb (bits % 4) 0) Middle (cond (eqb (bits % 4) 1) Last (cond (eqb (bits % 4) 2) First Only))
 
 unfoldable pub packetsOf : Split → PacketsAnswer
 packetsOf (made.Packets n) = record { refusal = 0; packets = n }

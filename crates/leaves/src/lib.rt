@@ -1,6 +1,5 @@
-// The leaves for another language: what the comparison with the Rust links, and what the replay of its stored answers calls. C takes no enum,
-// so an answer is a struct of numbers: `refusal` is 0 or the refusal's number, and a refused call gives back what it was given.
+// The leaves that no host calls, for the comparison with the Rust and the replay of its stored answers: message splitting, pacing by itself and
+// one timer. An answer is a struct of numbers, as those of the host entries are (crates/srt_sender).
 pub mod of_message;
 pub mod of_pacing;
 pub mod of_timer;
-pub mod of_timers;

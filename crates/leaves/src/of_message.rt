@@ -1,13 +1,9 @@
-// How a message becomes packets, and their headers.
+// How a message becomes packets.
 ghost use mathlib.Core.Path.{_≡_};
-ghost use Rattle.encapsulate.specs.Header.{header};
 ghost use Rattle.encapsulate.specs.Split.{split, piece};
-ghost use Rattle.leaves.specs.MessageAnswers.{placeOf, packetsOf, nothing, pieceOf};
+ghost use Rattle.leaves.specs.MessageAnswers.{packetsOf, nothing, pieceOf};
 use encapsulate::Cutting;
-use encapsulate::Place;
 use encapsulate::Split;
-use numbers::MsgNumber;
-use numbers::SeqNumber;
 
 // How many packets a message becomes.
 #[repr(C)]
@@ -24,23 +20,6 @@ pub struct PieceAnswer {
     pub place: u32,
     pub start: usize,
     pub len: usize,
-}
-
-// The place that the low two bits stand for.
-fn place_of(bits: u32) -> Place
-    ensures { λ r. ⌜ r ≡ placeOf bits ⌝ }
-{
-    let low = bits % 4;
-    if low == 0 {
-        return Place::Middle;
-    }
-    if low == 1 {
-        return Place::Last;
-    }
-    if low == 2 {
-        return Place::First;
-    }
-    Place::Only
 }
 
 fn packets_of(a: Split) -> PacketsAnswer
@@ -101,27 +80,4 @@ pub extern "C" fn leaves_split_packet(len: usize, size: usize, k: usize) -> Piec
     ensures { λ r. ⌜ r ≡ pieceOf (piece size len k) ⌝ }
 {
     piece_of(encapsulate::packet(len, size, k))
-}
-
-// The sixteen header bytes, of the low bits of the place, the number and the message number.
-#[no_mangle]
-pub extern "C" fn leaves_header(
-    out: &mut [u8; 16],
-    place: u32,
-    again: bool,
-    number: u32,
-    message: u32,
-    stamp: u32,
-    id: u32,
-)
-    ensures { λ _. ⌜ now (out .exit) ≡ header (placeOf place) again number message stamp id ⌝ }
-{
-    *out = encapsulate::header(
-        place_of(place),
-        again,
-        SeqNumber(number),
-        MsgNumber(message),
-        stamp,
-        id,
-    );
 }

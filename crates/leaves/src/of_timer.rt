@@ -1,9 +1,11 @@
 // One timer.
 ghost use mathlib.Core.Path.{_≡_};
 ghost use Rattle.timer.specs.Timer.{made, periodOf, nextInstant, reset, setPeriod, checkExpired};
-ghost use Rattle.leaves.specs.TimerAnswers.{blank, told, timerSet, timerChecked, nanoseconds};
-use timer::Elapsed;
-use timer::Nanoseconds;
+ghost use Rattle.srt_sender.specs.TimersAnswers.{blank, nanoseconds};
+ghost use Rattle.leaves.specs.TimerAnswers.{timerSet, timerChecked};
+use srt_sender::of_timers::NanosecondsAnswer;
+use srt_sender::of_timers::nanoseconds;
+use srt_sender::of_timers::told;
 use timer::Timer;
 use timer::TimerChecked;
 use timer::TimerSet;
@@ -14,23 +16,6 @@ pub struct TimerAnswer {
     pub refusal: u32,
     pub periods: u32,
     pub timer: Timer,
-}
-
-// Nanoseconds read off a timer, or off all of them.
-#[repr(C)]
-pub struct NanosecondsAnswer {
-    pub refusal: u32,
-    pub nanoseconds: u64,
-}
-
-// A check that finds something finds at least one period, so 0 is free to say that it found none.
-pub(crate) fn told(elapsed: Elapsed) -> u32
-    ensures { λ r. ⌜ r ≡ told elapsed ⌝ }
-{
-    match elapsed {
-        Elapsed::Nothing => 0,
-        Elapsed::Periods(n) => n,
-    }
 }
 
 fn timer_set(before: Timer, a: TimerSet) -> TimerAnswer
@@ -67,21 +52,6 @@ fn timer_checked(before: Timer, a: TimerChecked) -> TimerAnswer
             refusal: refusal.number(),
             periods: 0,
             timer: before,
-        },
-    }
-}
-
-pub(crate) fn nanoseconds(a: Nanoseconds) -> NanosecondsAnswer
-    ensures { λ r. ⌜ r ≡ nanoseconds a ⌝ }
-{
-    match a {
-        Nanoseconds::Are(nanoseconds) => NanosecondsAnswer {
-            refusal: 0,
-            nanoseconds,
-        },
-        Nanoseconds::Refused(refusal) => NanosecondsAnswer {
-            refusal: refusal.number(),
-            nanoseconds: 0,
         },
     }
 }

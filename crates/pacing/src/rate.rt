@@ -6,6 +6,7 @@ ghost use Rattle.pacing.specs.Rate.{elapsed, rate, still, newMean, apart
 ghost use Rattle.pacing.specs.Rate.Laws.{Ranged};
 
 // What came in since the last estimate (the Rust's `total` less `last`), and that estimate, per second.
+#[repr(C)]
 pub struct RateEstimation {
     pub count: u64,
     pub mean: u64,

@@ -1,10 +1,10 @@
 // Answers a stored script of calls of the leaves: 64 bytes in for each call, a line out. The gate holds the lines against crates/replay/stdout,
 // which the Rust wrote (compare/README.md, "The stored sample"), so that a clone without the Rust still hears what it answers.
-use leaves::of_pacing::Pacing;
+use flat::senders::FlatPacing;
 use leaves::of_pacing::leaves_pacing_new;
 use leaves::of_timer::leaves_timer_new;
-use leaves::of_timers::leaves_timers_new;
 use record::Record;
+use srt_sender::of_timers::srt_entry_timers_new;
 use timer::Timer;
 use timers::Timers;
 
@@ -19,7 +19,7 @@ mod timers_calls;
 struct Bench {
     timer: Timer,
     timers: Timers,
-    pacing: Pacing,
+    pacing: FlatPacing,
 }
 
 // Whether the input goes on, and the leaves after the call.
@@ -30,7 +30,7 @@ struct Turn {
 
 fn start() -> Bench {
     let one = leaves_timer_new(0, 0);
-    let all = leaves_timers_new(0, 0, 0);
+    let all = srt_entry_timers_new(0, 0, 0);
     let pace = leaves_pacing_new(3, 0, 0);
     let timer = one.timer;
     let timers = all.timers;

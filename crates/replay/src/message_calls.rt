@@ -3,9 +3,9 @@ use crate::record::Record;
 use crate::record::low;
 use crate::record::wide;
 use crate::show;
-use leaves::of_message::leaves_header;
 use leaves::of_message::leaves_split_packet;
 use leaves::of_message::leaves_split_packets;
+use srt_sender::of_packet::srt_entry_header;
 
 fn show_packet(len: usize, size: usize, k: usize) {
     let a = leaves_split_packet(len, size, k);
@@ -41,7 +41,7 @@ fn show_bytes(bytes: [u8; 16]) {
 
 fn header(r: Record) {
     let mut out = [0u8; 16];
-    leaves_header(
+    srt_entry_header(
         &mut out,
         low(r.b),
         r.c == 1,

@@ -2,13 +2,13 @@
 use crate::record::Record;
 use crate::record::low;
 use crate::show;
-use leaves::of_pacing::Estimate;
-use leaves::of_pacing::Pacing;
+use flat::senders::FlatPacing;
 use leaves::of_pacing::PacingAnswer;
 use leaves::of_pacing::leaves_pacing_new;
 use leaves::of_pacing::leaves_pacing_on_input;
+use pacing::rate::RateEstimation;
 
-fn answer(pacing: Pacing, r: Record) -> PacingAnswer {
+fn answer(pacing: FlatPacing, r: Record) -> PacingAnswer {
     if r.operation == 13 {
         leaves_pacing_new(low(r.a), r.b, r.c)
     } else {
@@ -16,18 +16,14 @@ fn answer(pacing: Pacing, r: Record) -> PacingAnswer {
     }
 }
 
-fn begun(pacing: Pacing) -> u64 {
-    if pacing.begun { 1 } else { 0 }
-}
-
-fn show_estimate(e: Estimate) {
+fn show_estimate(e: RateEstimation) {
     show::decimal(e.count);
     show::decimal(e.mean);
     show::decimal(e.variance);
 }
 
 // A refused `new` keeps the pacing that there was.
-fn kept(before: Pacing, r: Record, a: PacingAnswer) -> Pacing {
+fn kept(before: FlatPacing, r: Record, a: PacingAnswer) -> FlatPacing {
     let after = a.pacing;
     if r.operation == 13 && a.refusal != 0 {
         before
@@ -36,7 +32,7 @@ fn kept(before: Pacing, r: Record, a: PacingAnswer) -> Pacing {
     }
 }
 
-pub(crate) fn call(pacing: Pacing, r: Record) -> Pacing {
+pub(crate) fn call(pacing: FlatPacing, r: Record) -> FlatPacing {
     let a = answer(pacing, r);
     let after = kept(pacing, r, a);
     let packets = after.packets;
@@ -44,7 +40,7 @@ pub(crate) fn call(pacing: Pacing, r: Record) -> Pacing {
     show::text(b"pacing");
     show::decimal(a.refusal as u64);
     show::decimal(a.period);
-    show::decimal(begun(after));
+    show::decimal(after.begun as u64);
     show::decimal(after.next);
     show_estimate(packets);
     show_estimate(bytes);

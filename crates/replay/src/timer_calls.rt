@@ -1,7 +1,6 @@
 // The calls of one timer.
 use crate::record::Record;
 use crate::show;
-use leaves::of_timer::NanosecondsAnswer;
 use leaves::of_timer::TimerAnswer;
 use leaves::of_timer::leaves_timer_check_expired;
 use leaves::of_timer::leaves_timer_new;
@@ -9,6 +8,7 @@ use leaves::of_timer::leaves_timer_next_instant;
 use leaves::of_timer::leaves_timer_period;
 use leaves::of_timer::leaves_timer_reset;
 use leaves::of_timer::leaves_timer_set_period;
+use srt_sender::of_timers::NanosecondsAnswer;
 use timer::Timer;
 
 fn answer(timer: Timer, r: Record) -> TimerAnswer {

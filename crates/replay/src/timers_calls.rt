@@ -4,27 +4,27 @@ use crate::record::low;
 use crate::show;
 use crate::timer_calls::show_nanoseconds;
 use crate::timer_calls::show_timer;
-use leaves::of_timers::TimersAnswer;
-use leaves::of_timers::leaves_timers_check_full_ack;
-use leaves::of_timers::leaves_timers_check_nak;
-use leaves::of_timers::leaves_timers_check_peer_idle_timeout;
-use leaves::of_timers::leaves_timers_check_snd;
-use leaves::of_timers::leaves_timers_check_statistics;
-use leaves::of_timers::leaves_timers_new;
-use leaves::of_timers::leaves_timers_next_timer;
-use leaves::of_timers::leaves_timers_reset_exp;
-use leaves::of_timers::leaves_timers_update_rtt;
-use leaves::of_timers::leaves_timers_update_snd_period;
 use rtt::Rtt;
+use srt_sender::of_timers::TimersAnswer;
+use srt_sender::of_timers::srt_entry_timers_check_full_ack;
+use srt_sender::of_timers::srt_entry_timers_check_nak;
+use srt_sender::of_timers::srt_entry_timers_check_peer_idle_timeout;
+use srt_sender::of_timers::srt_entry_timers_check_snd;
+use srt_sender::of_timers::srt_entry_timers_check_statistics;
+use srt_sender::of_timers::srt_entry_timers_new;
+use srt_sender::of_timers::srt_entry_timers_next_timer;
+use srt_sender::of_timers::srt_entry_timers_reset_exp;
+use srt_sender::of_timers::srt_entry_timers_update_rtt;
+use srt_sender::of_timers::srt_entry_timers_update_snd_period;
 use timers::Timers;
 
 fn check(timers: Timers, which: u64, now: u64) -> TimersAnswer {
     match which {
-        0 => leaves_timers_check_snd(timers, now),
-        1 => leaves_timers_check_full_ack(timers, now),
-        2 => leaves_timers_check_nak(timers, now),
-        3 => leaves_timers_check_peer_idle_timeout(timers, now),
-        _ => leaves_timers_check_statistics(timers, now),
+        0 => srt_entry_timers_check_snd(timers, now),
+        1 => srt_entry_timers_check_full_ack(timers, now),
+        2 => srt_entry_timers_check_nak(timers, now),
+        3 => srt_entry_timers_check_peer_idle_timeout(timers, now),
+        _ => srt_entry_timers_check_statistics(timers, now),
     }
 }
 
@@ -42,17 +42,17 @@ fn preset(timers: Timers, exp_count: u32) -> TimersAnswer {
 fn answer(timers: Timers, r: Record) -> TimersAnswer {
     let operation = r.operation;
     match operation {
-        6 => leaves_timers_new(r.a, r.b, r.c),
+        6 => srt_entry_timers_new(r.a, r.b, r.c),
         7 => check(timers, r.a, r.b),
-        9 => leaves_timers_update_snd_period(timers, r.a),
-        10 => leaves_timers_update_rtt(
+        9 => srt_entry_timers_update_snd_period(timers, r.a),
+        10 => srt_entry_timers_update_rtt(
             timers,
             Rtt {
                 mean: low(r.a),
                 variance: low(r.b),
             },
         ),
-        11 => leaves_timers_reset_exp(timers, r.a),
+        11 => srt_entry_timers_reset_exp(timers, r.a),
         _ => preset(timers, low(r.a)),
     }
 }
@@ -86,7 +86,14 @@ fn show_timers(ts: Timers) {
 pub(crate) fn call(timers: Timers, r: Record) -> Timers {
     if r.operation == 8 {
         show::text(b"timers wake");
-        show_nanoseconds(leaves_timers_next_timer(timers, r.a, r.b == 1, r.c == 1, r.d, low(r.e)));
+        show_nanoseconds(srt_entry_timers_next_timer(
+            timers,
+            r.a,
+            r.b == 1,
+            r.c == 1,
+            r.d,
+            low(r.e),
+        ));
         show::end();
         return timers;
     }

@@ -1,0 +1,3 @@
+pub mod Examples
+pub mod Replies
+pub mod Senders

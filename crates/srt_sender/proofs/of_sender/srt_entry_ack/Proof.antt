@@ -1,0 +1,40 @@
+-- `srt_sender::of_sender::srt_entry_ack` meets its contract: the numbers read, the call, the answer written.
+-- Assumes nothing.
+use Rattle.srt_sender.proofs.Entering.{ack-entered}
+use borrow.Author.Needs.{needs}
+use Rattle.srt_sender.proofs.of_sender.srt_entry_ack.Statement.{statement}
+use Rattle.srt_sender.proofs.of_sender.srt_entry_ack.Tie as tie
+
+sender-requires : tie.Need-sender-requires
+sender-requires c κs = search needs
+
+full-of-requires : tie.Need-full-of-requires
+full-of-requires c κs = search needs
+
+rtt-of-requires : tie.Need-rtt-of-requires
+rtt-of-requires c κs = search needs
+
+ack-requires : tie.Need-ack-requires
+ack-requires c κs = search needs
+
+ack-answer-requires : tie.Need-ack-answer-requires
+ack-answer-requires c κs = search needs
+
+same-length : tie.Need-same-length
+same-length c = search needs
+
+returns : tie.Need-returns
+returns c = rw (← c .before .before .before .before .before .before .full-of .ensures, ← c .before .before .before .before .before .rtt-of .ensures)
+    (ack-entered _ _ (c .before .before .before .before .before .before .before .sender .ensures) _ _ _ _ _ _ _ _ (c .before .before .before .ack .ensures) (c .ack-answer .ensures))
+
+pub srt-entry-ack-spec : {M : Type 1} → statement M
+srt-entry-ack-spec =
+    tie.close
+    (tie.spec
+    sender-requires
+    full-of-requires
+    rtt-of-requires
+    ack-requires
+    ack-answer-requires
+    same-length
+    returns)

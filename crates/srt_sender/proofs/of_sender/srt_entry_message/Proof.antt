@@ -1,0 +1,39 @@
+-- `srt_sender::of_sender::srt_entry_message` meets its contract: the numbers read, the call, the answer written.
+-- Assumes nothing.
+use Rattle.srt_sender.proofs.Entering.{message-entered}
+use borrow.Author.Needs.{needs}
+use Rattle.srt_sender.proofs.of_sender.srt_entry_message.Statement.{statement}
+use Rattle.srt_sender.proofs.of_sender.srt_entry_message.Tie as tie
+
+sender-requires : tie.Need-sender-requires
+sender-requires c κs = search needs
+
+message-requires : tie.Need-message-requires
+message-requires c κs = search needs
+
+message-answer-requires : tie.Need-message-answer-requires
+message-answer-requires c κs = search needs
+
+same-length : tie.Need-same-length
+same-length c = search needs
+
+same-length-2 : tie.Need-same-length-2
+same-length-2 c = search needs
+
+same-length-3 : tie.Need-same-length-3
+same-length-3 c = search needs
+
+returns : tie.Need-returns
+returns c = message-entered _ _ (c .before .before .before .before .before .before .before .before .before .before .before .sender .ensures) _ _ _ _ _ _ _ _ _ _ _ (c .before .before .before .before .before .before .before .message .ensures) (c .message-answer .ensures)
+
+pub srt-entry-message-spec : {M : Type 1} → statement M
+srt-entry-message-spec =
+    tie.close
+    (tie.spec
+    sender-requires
+    message-requires
+    message-answer-requires
+    same-length
+    same-length-2
+    same-length-3
+    returns)

@@ -1,0 +1,21 @@
+-- `srt_sender::of_sender::srt_entry_payload` meets its contract: what its calls ensure, one put into the other.
+-- Assumes nothing.
+use borrow.Author.Needs.{needs}
+use Rattle.srt_sender.proofs.of_sender.srt_entry_payload.Statement.{statement}
+use Rattle.srt_sender.proofs.of_sender.srt_entry_payload.Tie as tie
+
+sender-requires : tie.Need-sender-requires
+sender-requires c κs = search needs
+
+payload-requires : tie.Need-payload-requires
+payload-requires c κs = search needs
+
+payload-answer-requires : tie.Need-payload-answer-requires
+payload-answer-requires c κs = search needs
+
+returns : tie.Need-returns
+returns c = rw (c .payload-answer .ensures, c .before .payload .ensures, c .before .before .sender .ensures)
+
+pub srt-entry-payload-spec : {M : Type 1} → statement M
+srt-entry-payload-spec =
+    tie.close (tie.spec sender-requires payload-requires payload-answer-requires returns)

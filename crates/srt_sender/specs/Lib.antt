@@ -1,0 +1,4 @@
+pub mod Entries
+pub mod Examples
+pub mod Packet
+pub mod TimersAnswers
