@@ -1,14 +1,59 @@
-# make test     the gate: layout, trace, a bounded comparison with the Rust, every proof, every must-fail edit, every program
-# make demo     builds what is proved and prints document 01's figures that it decides
+# make test     the gate: layout, trace, a bounded comparison with the Rust, the library from C, every proof, every must-fail edit, every program
+# make demo     the hub's morning over the rollover of the stamp, on a simulated clock, and what judging lateness on the stamp leads to
+# make figures  builds what is proved and prints document 01's figures that it decides
 # make compare  the whole comparison with the Rust, some minutes
-.PHONY: test demo compare
+# make lib      the static library that a host links: target/staticlib/libsrt_sender.a
+# make ctest    the library tried from C: tests/run
+# make example  builds and runs examples/picture.c
+# make install  the header, the library and srt_sender.pc below PREFIX (/usr/local), below DESTDIR where that is given
+.PHONY: test demo figures compare lib ctest example install
+
+CC = gcc
+CFLAGS = -std=c99 -O1 -g -Wall -Wextra -pedantic
+PREFIX = /usr/local
+DESTDIR =
+VERSION = 0.1.0
+LIB = target/staticlib/libsrt_sender.a
 
 test:
 	.ci/run
 
-demo:
+demo: target/demo/story
+	target/demo/story target/demo/whole.csv
+	target/demo/story --on-stamp target/demo/on-stamp.csv
+	demo/picture target/demo/whole.csv target/demo/on-stamp.csv target/demo/story.svg
+
+target/demo/story: $(wildcard demo/*.c) demo/story.h include/srt_sender.h $(LIB)
+	mkdir -p target/demo
+	$(CC) -std=c99 -O2 -Wall -Wextra -pedantic -Wconversion -Iinclude -o $@ $(filter %.c %.a,$^)
+
+figures:
 	rt check figures
 	target/bin/figures
 
 compare:
 	compare/run full
+
+lib:
+	rt staticlib srt_sender
+
+# Where there is no library yet it is made; `make lib` makes it anew.
+$(LIB):
+	rt staticlib srt_sender
+
+ctest: $(LIB)
+	tests/run
+
+target/c/picture: examples/picture.c include/srt_sender.h $(LIB)
+	mkdir -p target/c
+	$(CC) $(CFLAGS) -Iinclude -o $@ examples/picture.c $(LIB)
+
+example: target/c/picture
+	target/c/picture
+
+install: $(LIB)
+	install -d $(DESTDIR)$(PREFIX)/include $(DESTDIR)$(PREFIX)/lib/pkgconfig
+	install -m 644 include/srt_sender.h $(DESTDIR)$(PREFIX)/include/srt_sender.h
+	install -m 644 $(LIB) $(DESTDIR)$(PREFIX)/lib/libsrt_sender.a
+	sed 's|@VERSION@|$(VERSION)|' srt_sender.pc.in > $(DESTDIR)$(PREFIX)/lib/pkgconfig/srt_sender.pc
+	chmod 644 $(DESTDIR)$(PREFIX)/lib/pkgconfig/srt_sender.pc

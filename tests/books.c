@@ -1,0 +1,274 @@
+/* books.c: the book rules and the order of the refusals, written from document 01 and docs/BOOKS.md, and from nothing
+ * of the library. Each want_ function says what a call must answer. */
+#include "outside.h"
+
+#define BIT(n) ((uint64_t)1 << (n))
+static const want accepted;
+
+static want refused(uint32_t number)
+{
+    want w = accepted;
+    w.number = number;
+    return w;
+}
+
+/* "Capacity is the buffer size, or 1 where that is 0." */
+size_t capacity_of(const struct srt_settings *c)
+{
+    return c->buffer == 0 ? 1 : c->buffer;
+}
+
+/* "Distance from a to b is (b - a) modulo 2^31." */
+uint32_t distance(uint32_t from, uint32_t to)
+{
+    return (to - from) & 0x7fffffff;
+}
+
+/* "first sequence number below 2^31; packet size 1 to 1,456; ..." */
+bool settings_kept(const struct srt_settings *c)
+{
+    if (c->first >= BIT(31))
+        return false;
+    if (c->size < 1 || c->size > 1456)
+        return false;
+    if (c->buffer > 8192 || c->flow > 65535)
+        return false;
+    return c->latency <= 65535000 && c->overhead <= 128;
+}
+
+/* "Rates to 2^40, overhead to 10,000"; a number that the mode has no use for is 0. */
+static bool mode_kept(uint32_t mode, uint64_t rate, uint64_t overhead)
+{
+    switch (mode) {
+    case SRT_MODE_INPUT:
+    case SRT_MODE_ESTIMATED:
+        return rate <= BIT(40) && overhead <= 10000;
+    case SRT_MODE_MAX:
+        return rate <= BIT(40) && overhead == 0;
+    case SRT_MODE_UNLIMITED:
+        return rate == 0 && overhead == 0;
+    }
+    return false;
+}
+
+/* "its counts at most 2^38, means and variances at most 2^42" */
+static bool estimate_kept(const struct srt_estimate *e)
+{
+    return e->count <= BIT(38) && e->mean <= BIT(42) && e->variance <= BIT(42);
+}
+
+/* "pacing's next below 2^49"; it is 0 until pacing has begun. */
+static bool pacing_kept(const struct srt_pacing *p)
+{
+    if (p->begun > 1 || (p->begun == 0 && p->next != 0) || p->next >= BIT(49))
+        return false;
+    return estimate_kept(&p->packets) && estimate_kept(&p->bytes) && mode_kept(p->mode, p->rate, p->overhead);
+}
+
+static bool rtt_kept(const struct srt_rtt *r)
+{
+    return r->mean <= 100000000 && r->variance <= 100000000;
+}
+
+/* A flushed packet is held, with a number, a slot and a length in their ranges, or nothing is and all is 0. */
+static bool held_kept(const struct srt_held *h, const struct srt_settings *c)
+{
+    if (h->held == 0)
+        return h->number == 0 && h->slot == 0 && h->len == 0;
+    return h->held == 1 && h->number < BIT(31) && h->slot < capacity_of(c) && h->len <= c->size;
+}
+
+/* "sent packets, and only those, have a transmit count of at least 1 (held at 65,535) and a resend time below 2^49;
+ * times below 2^48; payloads at most packet size"; place 0 to 3; a message number has 26 bits. */
+static bool entry_kept(const uint64_t *e, const struct srt_settings *c, bool sent)
+{
+    if (e[0] >= BIT(48) || e[1] >= BIT(26) || e[2] > 3 || e[3] > c->size)
+        return false;
+    if (!sent)
+        return e[4] == 0 && e[5] == 0;
+    return e[4] >= 1 && e[4] <= 65535 && e[5] < BIT(49);
+}
+
+/* Every packet, and "byte count below 2^62 and not below the sum of buffered wire sizes". */
+static bool packets_kept(const struct srt_sender *s, const struct srt_areas *a)
+{
+    const struct srt_books *b = &s->books;
+    uint64_t sum = 0;
+    for (size_t i = 0; i < b->ring.len; i++) {
+        const uint64_t *e = a->ring + (b->ring.slot + i) % b->ring.cap * 6;
+        if (!entry_kept(e, &s->settings, i < b->sent))
+            return false;
+        sum += e[3] + s->settings.overhead;
+    }
+    return b->bytes < BIT(62) && sum <= b->bytes;
+}
+
+/* "the loss list ascending from the front, without repeats, all sent": so there are no more of them than sent ones. It stands farthest first. */
+static bool losses_kept(const struct srt_books *b, const struct srt_areas *a)
+{
+    if (b->lost > b->sent)
+        return false;
+    for (size_t i = 0; i < b->lost; i++) {
+        if (a->lost[i] >= BIT(31) || distance(b->front, a->lost[i]) >= b->sent)
+            return false;
+        if (i > 0 && distance(b->front, a->lost[i - 1]) <= distance(b->front, a->lost[i]))
+            return false;
+    }
+    return true;
+}
+
+/* All book rules of a sender; where the settings are in range, ring and lost must be long enough for them. */
+bool books_kept(const struct srt_sender *s, const struct srt_areas *a)
+{
+    const struct srt_books *b = &s->books;
+    if (!settings_kept(&s->settings) || !pacing_kept(&s->pacing))
+        return false;
+    if (b->ring.cap != capacity_of(&s->settings) || b->ring.slot >= b->ring.cap || b->ring.len > b->ring.cap)
+        return false;
+    if (b->front >= BIT(31) || b->sent > b->ring.len || b->message >= BIT(26))
+        return false;
+    if (b->expected < 1 || b->expected > BIT(32) || !rtt_kept(&b->rtt) || !held_kept(&b->held, &s->settings))
+        return false;
+    return packets_kept(s, a) && losses_kept(b, a);
+}
+
+static bool timer_kept(const struct srt_timer *t)
+{
+    return t->last < BIT(58) && t->period <= 1000000000000000;
+}
+
+/* "timer origins below 2^58, periods at most 10^15"; the EXP count is 1 to 2^32 - 1. */
+bool timers_kept(const struct srt_timers *t)
+{
+    return timer_kept(&t->snd) && timer_kept(&t->full_ack) && timer_kept(&t->nak) && timer_kept(&t->exp) &&
+           timer_kept(&t->peer_idle) && timer_kept(&t->statistics) && t->exp_count >= 1;
+}
+
+/* 2 before 3; settings out of range say nothing of an area's size, and are 3. */
+static want want_books(const struct srt_sender *s, const struct srt_areas *a, bool stored)
+{
+    const struct srt_settings *c = &s->settings;
+    const size_t cap = capacity_of(c);
+    if (settings_kept(c)) {
+        if (a->ring_len < cap * 6 || a->lost_len < cap)
+            return refused(SRT_BAD_STORE);
+        if (stored && a->store_len < cap * c->size)
+            return refused(SRT_BAD_STORE);
+    }
+    return books_kept(s, a) ? accepted : refused(SRT_BAD_STATE);
+}
+
+want want_new(const struct srt_settings *c, uint32_t mode, uint64_t rate, uint64_t overhead)
+{
+    return settings_kept(c) && mode_kept(mode, rate, overhead) ? accepted : refused(SRT_BAD_SETTING);
+}
+
+/* "packets or payload bytes since the last estimate (one due now taken as made), with this message, pass 2^38" */
+static bool counts_full(const struct srt_pacing *p, uint64_t now, uint64_t packets, uint64_t bytes)
+{
+    const bool due = p->begun == 1 && p->next <= now;
+    return (due ? 0 : p->packets.count) + packets > BIT(38) || (due ? 0 : p->bytes.count) + bytes > BIT(38);
+}
+
+want want_message(const struct srt_sender *s, const struct srt_areas *a, uint64_t time, uint64_t now, size_t len)
+{
+    const want w = want_books(s, a, true);
+    uint64_t packets;
+    if (w.number != 0)
+        return w;
+    if (time >= BIT(48) || now >= BIT(48))
+        return refused(SRT_BAD_TIME);
+    if (len > 1048576)
+        return refused(SRT_TOO_LONG);
+    packets = len == 0 ? 1 : (len + s->settings.size - 1) / s->settings.size;
+    if (s->books.bytes + len + packets * s->settings.overhead >= BIT(62) || counts_full(&s->pacing, now, packets, len))
+        return refused(SRT_COUNT_FULL);
+    return accepted;
+}
+
+want want_ack(const struct srt_sender *s, const struct srt_areas *a, uint32_t number, const uint32_t *full,
+              const struct srt_rtt *rtt)
+{
+    const struct srt_books *b = &s->books;
+    want w = want_books(s, a, false);
+    if (w.number != 0)
+        return w;
+    if (number >= BIT(31))
+        return refused(SRT_BAD_NUMBER);
+    if (rtt != NULL && !rtt_kept(rtt))
+        return refused(SRT_BAD_RTT);
+    if (b->ring.len == 0)
+        return refused(SRT_EMPTY);
+    if (distance(b->front, number) > b->sent) {
+        w = refused(SRT_INVALID_ACK);
+        w.first = number;
+        w.second = b->front;
+        w.third = (b->front + b->sent) & 0x7fffffff;
+    } else if (full != NULL && *full < b->expected) {
+        w = refused(SRT_STALE_FULL_ACK);
+        w.first = *full;
+        w.second = b->expected;
+    }
+    return w;
+}
+
+/* The words of the item at |at|: 1 for a number, 2 for a range, 0 where it is malformed. */
+static size_t item_words(const uint32_t *words, size_t len, size_t at)
+{
+    if (words[at] < BIT(31))
+        return 1;
+    if (at + 1 == len || words[at + 1] >= BIT(31))
+        return 0;
+    return distance(words[at] & 0x7fffffff, words[at + 1]) < BIT(30) ? 2 : 0;
+}
+
+want want_nak(const struct srt_sender *s, const struct srt_areas *a, const uint32_t *words, size_t len, size_t room)
+{
+    want w = want_books(s, a, false);
+    size_t items = 0, width;
+    if (w.number != 0)
+        return w;
+    if (len > 512) {
+        w = refused(SRT_BAD_NAK);
+        w.first = 512;
+        return w;
+    }
+    for (size_t at = 0; at < len; at += width, items++) {
+        width = item_words(words, len, at);
+        if (width == 0) {
+            w = refused(SRT_BAD_NAK);
+            w.first = at;
+            return w;
+        }
+    }
+    return room < 9 * items ? refused(SRT_NO_ROOM) : accepted;
+}
+
+want want_run(const struct srt_sender *s, const struct srt_areas *a, uint64_t now, uint32_t budget, size_t room)
+{
+    const want w = want_books(s, a, false);
+    const size_t packets = budget < s->books.ring.len ? budget : s->books.ring.len;
+    if (w.number != 0)
+        return w;
+    if (now >= BIT(48))
+        return refused(SRT_BAD_TIME);
+    return room / 24 < packets + 3 ? refused(SRT_NO_ROOM) : accepted;
+}
+
+want want_payload(const struct srt_sender *s, const struct srt_areas *a, uint32_t number)
+{
+    const struct srt_books *b = &s->books;
+    const want w = want_books(s, a, true);
+    if (w.number != 0)
+        return w;
+    if (number >= BIT(31))
+        return refused(SRT_BAD_NUMBER);
+    if (distance(b->front, number) < b->ring.len || (b->held.held == 1 && b->held.number == number))
+        return accepted;
+    return refused(SRT_NOT_HELD);
+}
+
+want want_reports(const struct srt_sender *s, const struct srt_areas *a)
+{
+    return want_books(s, a, false);
+}
