@@ -1,18 +1,23 @@
-//! Links the proved leaves where compare/run has built them: `SRT_LEAVES`
-//! names the folder of libleaves.a. Without it the crate has no leaves to give.
+//! Links the proved library where compare/run has it: `SRT_ARCHIVES` names the
+//! folder of libsrt_sender.a and libleaves.a. Without both the crate has nothing
+//! to give.
 
 use std::{env, path::Path};
 
+const ARCHIVES: [&str; 2] = ["srt_sender", "leaves"];
+
 fn main() {
     println!("cargo::rustc-check-cfg=cfg(linked)");
-    println!("cargo::rerun-if-env-changed=SRT_LEAVES");
-    let folder = env::var("SRT_LEAVES").unwrap_or_default();
-    let archive = Path::new(&folder).join("libleaves.a");
-    if folder.is_empty() || !archive.is_file() {
+    println!("cargo::rerun-if-env-changed=SRT_ARCHIVES");
+    let folder = env::var("SRT_ARCHIVES").unwrap_or_default();
+    let archive = |name: &str| Path::new(&folder).join(format!("lib{name}.a"));
+    if folder.is_empty() || !ARCHIVES.iter().all(|name| archive(name).is_file()) {
         return;
     }
-    println!("cargo::rerun-if-changed={}", archive.display());
     println!("cargo::rustc-link-search=native={folder}");
-    println!("cargo::rustc-link-lib=static=leaves");
+    for name in ARCHIVES {
+        println!("cargo::rerun-if-changed={}", archive(name).display());
+        println!("cargo::rustc-link-lib=static={name}");
+    }
     println!("cargo::rustc-cfg=linked");
 }

@@ -2,7 +2,7 @@
 //! leaves with the Rust inside the domain of equality and with the model on
 //! every call.
 
-use model::{Area, Bend, BENDS};
+use model::{Area, Bend};
 
 use crate::{
     call::LeafCall,
@@ -23,9 +23,6 @@ pub const LEAVES: [(Area, &str); 5] = [
     (Area::Split, "split"),
     (Area::Header, "header"),
 ];
-
-/// Calls within which a bent answer must be noticed.
-const MOST_CALLS: u64 = 300_000;
 
 /// A judge and a subject.
 pub type Pair<'a> = (&'a Party, &'a Party);
@@ -101,38 +98,33 @@ pub fn model(extent: &Extent, parties: &Parties, reached: &mut Reached) -> Resul
     all(extent, pair, "calls compared, model", reached)
 }
 
-/// The proved leaves against the Rust and against the model; gives what was not
-/// reached and which bent answers were not noticed.
-pub fn rattle(extent: &Extent) -> Result<(usize, usize), ()> {
-    let Some(proved) = party::rattle(rattle::Bend::None) else {
-        println!("the proved leaves are not at hand (rt): NOT compared");
-        return Ok((0, 0));
-    };
+/// The proved leaves against the Rust and against the model; gives how much was
+/// not reached.
+pub fn rattle(extent: &Extent, proved: &Party) -> Result<usize, ()> {
     let (rust, document) = (party::unmodified(), party::model(Bend::None));
     let mut reached = Reached::default();
     all(
         extent,
-        (&rust, &proved),
+        (&rust, proved),
         "calls of the proved leaves compared with the Rust",
         &mut reached,
     )?;
     all(
         extent,
-        (&document, &proved),
+        (&document, proved),
         "calls of the proved leaves compared with the model, in the domain and out of it",
         &mut reached,
     )?;
     broken_books()?;
     println!("reached by the proved leaves:");
-    let missed = reached.print_leaves() + reached.print_held();
-    Ok((missed, unnoticed(&rust)))
+    Ok(reached.print_leaves() + reached.print_held())
 }
 
 fn broken_books() -> Result<(), ()> {
     let books = rattle::broken_books();
     let kept = books.iter().filter(|(_, refused)| *refused).count();
     println!(
-        "broken books that the proved leaves refuse and give back: {kept} of {}",
+        "broken books that the proved library refuses and gives back: {kept} of {}",
         books.len()
     );
     for (what, _) in books.iter().filter(|(_, refused)| !refused) {
@@ -142,62 +134,6 @@ fn broken_books() -> Result<(), ()> {
         return Err(());
     }
     Ok(())
-}
-
-/// Whether a bent answer is noticed against the Rust.
-fn notice(bend: rattle::Bend, area: Area, rust: &Party) -> bool {
-    let Some(bent) = party::rattle(bend) else {
-        return false;
-    };
-    let reached = &mut Reached::default();
-    let (mut seed, mut compared) = (0, 0);
-    while compared < MOST_CALLS {
-        match played(area, seed, (rust, &bent), reached) {
-            Ok(calls) => compared += calls.len() as u64,
-            Err(_) => return true,
-        }
-        seed += 1;
-    }
-    false
-}
-
-/// How many bent answers pass unnoticed.
-fn unnoticed(rust: &Party) -> usize {
-    let mut passed = 0;
-    for (bend, leaf, text) in rattle::BENDS {
-        let noticed = area(leaf).is_some_and(|area| notice(*bend, area, rust));
-        if !noticed {
-            passed += 1;
-            println!("bent answer not noticed: {text} ({bend:?})");
-        }
-    }
-    let all = rattle::BENDS.len();
-    println!(
-        "bent answers of the proved leaves noticed {} of {all}",
-        all - passed
-    );
-    passed
-}
-
-/// Shows how one bent answer is noticed; lists all bends for any other name.
-pub fn bend(name: &str, extent: &Extent) -> Result<(), ()> {
-    let known = rattle::BENDS
-        .iter()
-        .find(|(bend, _, _)| format!("{bend:?}") == name);
-    let Some((bend, leaf, text)) = known else {
-        let rules = BENDS.iter().map(|(bend, _, _)| format!("{bend:?}"));
-        let answers = rattle::BENDS.iter().map(|(bend, _, _)| format!("{bend:?}"));
-        println!("the bent rules: {}", Vec::from_iter(rules).join(" "));
-        println!("the bent answers: {}", Vec::from_iter(answers).join(" "));
-        return Err(());
-    };
-    println!("bent: {text}");
-    let (Some(bent), Some(area)) = (party::rattle(*bend), area(leaf)) else {
-        println!("the proved leaves are not at hand (rt)");
-        return Err(());
-    };
-    let rust = party::unmodified();
-    random(area, extent, (&rust, &bent), &mut Reached::default()).map(|_| ())
 }
 
 /// The calls of a generated script of one leaf, on which a pair agrees.

@@ -181,7 +181,7 @@ fn script(file: &str, copy: &str) -> ExitCode {
         "model" => party::model(Bend::None),
         "rattle" => match party::rattle(rattle::Bend::None) {
             Some(party) => party,
-            None => return faulty("the proved leaves are not at hand (rt)"),
+            None => return faulty("the proved library is not at hand (rt)"),
         },
         other => return faulty(&format!("there is no copy '{other}'")),
     };
@@ -189,11 +189,6 @@ fn script(file: &str, copy: &str) -> ExitCode {
         Ok(calls) => calls,
         Err(fault) => return faulty(&fault),
     };
-    let leaf = |call: &Call| matches!(call, Call::Leaf(_));
-    let of_sender = calls.iter().find(|(_, call)| !leaf(call));
-    if let (false, Some((line, _))) = (party.has_sender(), of_sender) {
-        return faulty(&format!("{file} line {line}: {copy} has the leaves alone"));
-    }
     let (answers, panic) = answering::answers(&party, &calls);
     print!("{answers}");
     match panic {

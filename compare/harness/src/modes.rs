@@ -4,14 +4,15 @@
 use std::time::{Duration, Instant};
 
 use calls::State;
-use model::{Area, Bend, BENDS};
+use model::{Area, Bend};
 
 use crate::{
     bends,
     call::SenderCall,
     exhaustive,
     generate::Generator,
-    leaf_modes, party,
+    leaf_modes,
+    party::{self, Party},
     reach::Reached,
     shrink::shrink,
     trial::{self, play, Failure, Parties, Tally},
@@ -27,11 +28,12 @@ pub struct Extent {
     pub seed: u64,
 }
 
-pub fn parties(bend: Bend) -> Parties {
+/// A subject beside both copies of the Rust.
+pub fn parties(subject: Party) -> Parties {
     Parties {
         unmodified: party::unmodified(),
         repaired: party::repaired(),
-        subject: party::model(bend),
+        subject,
     }
 }
 
@@ -78,32 +80,59 @@ fn random_sender(
     Ok(())
 }
 
-/// Fails if anything differed, was not reached or not noticed.
-fn compare(extent: &Extent) -> Result<(), ()> {
-    let parties = parties(Bend::None);
-    let mut reached = Reached::default();
+/// A subject's sender: every script of up to 4 calls, then random ones.
+fn sender(name: &str, extent: &Extent, parties: &Parties, reached: &mut Reached) -> Result<(), ()> {
     let mut tally = Tally::default();
-    exhaustive::all(&parties, &mut tally, &mut reached)
-        .map_err(|failure| report(&parties, failure))?;
+    exhaustive::all(parties, &mut tally, reached).map_err(|failure| report(parties, failure))?;
     let (calls, scripts) = (tally.calls, tally.scripts);
-    println!("calls compared, every script of up to 4 calls: {calls} in {scripts} scripts");
-    leaf_modes::model(extent, &parties, &mut reached)?;
-    let unnoticed = bends::all();
-    let (missed_leaves, unnoticed_leaves) = leaf_modes::rattle(extent)?;
-    random_sender(extent, &parties, &mut tally, &mut reached)?;
+    random_sender(extent, parties, &mut tally, reached)?;
     let (random, random_scripts) = (tally.calls - calls, tally.scripts - scripts);
-    println!("calls compared, random scripts: {random} in {random_scripts} scripts");
-    println!("calls of the sender compared: {}", tally.calls);
+    println!(
+        "calls of the sender compared, {name}: {} in {} scripts, differences 0",
+        tally.calls, tally.scripts
+    );
+    println!("  every script of up to 4 calls: {calls} in {scripts} scripts");
+    println!("  random scripts: {random} in {random_scripts} scripts");
     println!("  by the unmodified copy too: {}", tally.unmodified);
     println!("  two ways through the Rust agreed: {}", tally.two_ways);
     println!(
-        "calls of the sender refused by their arguments: {}; outside the domain, not made: {}",
+        "  besides, refused by their arguments: {}; outside the domain, not made: {}",
         tally.refused, tally.outside
     );
-    println!("reached:");
-    let missed = reached.print() + missed_leaves;
-    let unnoticed = unnoticed + unnoticed_leaves;
-    println!("differences 0, not reached {missed}, bent rules not noticed {unnoticed}");
+    Ok(())
+}
+
+/// The model, its bent rules, and then the proved library. Fails if anything
+/// differed, was not reached or not noticed.
+fn compare(extent: &Extent) -> Result<(), ()> {
+    let model = parties(party::model(Bend::None));
+    let mut reached = Reached::default();
+    leaf_modes::model(extent, &model, &mut reached)?;
+    let unnoticed = bends::rules();
+    let Some(proved) = party::rattle(rattle::Bend::None) else {
+        println!("the proved library is not at hand (rt): NOT compared");
+        sender("model", extent, &model, &mut reached)?;
+        println!("reached by the model:");
+        return verdict(reached.print(), unnoticed);
+    };
+    let bounded = Extent {
+        until: None,
+        ..*extent
+    };
+    sender("model", &bounded, &model, &mut reached)?;
+    let missed = leaf_modes::rattle(extent, &proved)?;
+    let unnoticed = unnoticed + bends::answers();
+    let proved = parties(proved);
+    let mut reached_by_proved = Reached::default();
+    sender("proved library", extent, &proved, &mut reached_by_proved)?;
+    println!("reached by the model:");
+    let missed = missed + reached.print();
+    println!("reached by the proved sender:");
+    verdict(missed + reached_by_proved.print_scripts(), unnoticed)
+}
+
+fn verdict(missed: usize, unnoticed: usize) -> Result<(), ()> {
+    println!("differences 0, not reached {missed}, bent rules and answers not noticed {unnoticed}");
     if missed + unnoticed > 0 {
         return Err(());
     }
@@ -128,20 +157,23 @@ pub fn full(seed: u64) -> Result<(), ()> {
     })
 }
 
+/// The exhaustive part alone, of the proved library or, where it isn't at hand,
+/// of the model.
 pub fn scripts() -> Result<(), ()> {
-    let parties = parties(Bend::None);
+    let proved = party::rattle(rattle::Bend::None);
+    let parties = parties(proved.unwrap_or_else(|| party::model(Bend::None)));
     let mut tally = Tally::default();
     exhaustive::all(&parties, &mut tally, &mut Reached::default())
         .map_err(|failure| report(&parties, failure))?;
     println!(
-        "every script of up to 4 calls: {} scripts, {} calls, {} by the unmodified copy too",
-        tally.scripts, tally.calls, tally.unmodified
+        "every script of up to 4 calls, {}: {} scripts, {} calls, {} by the unmodified copy too",
+        parties.subject.name, tally.scripts, tally.calls, tally.unmodified
     );
     println!("differences 0");
     Ok(())
 }
 
-/// Shows how one bent rule is noticed: fails, as a difference does.
+/// Shows how one bend is noticed: fails, as a difference does.
 pub fn bend(name: &str) -> Result<(), ()> {
     let extent = Extent {
         sender_calls: 1_000_000,
@@ -149,27 +181,29 @@ pub fn bend(name: &str) -> Result<(), ()> {
         until: None,
         seed: 0,
     };
-    let Some((bend, area, text)) = BENDS
-        .iter()
-        .find(|(bend, _, _)| format!("{bend:?}") == name)
-    else {
-        return leaf_modes::bend(name, &extent);
+    let Some((_, area, text, bent)) = bends::named(name) else {
+        bends::list();
+        return Err(());
     };
     println!("bent: {text}");
-    let parties = parties(*bend);
+    let Some(bent) = bent else {
+        println!("the proved library is not at hand (rt)");
+        return Err(());
+    };
+    let parties = parties(bent);
     let reached = &mut Reached::default();
     match area {
         Area::Sender => random_sender(&extent, &parties, &mut Tally::default(), reached),
         area => {
             let pair = (&parties.unmodified, &parties.subject);
-            leaf_modes::random(*area, &extent, pair, reached).map(|_| ())
+            leaf_modes::random(area, &extent, pair, reached).map(|_| ())
         }
     }
 }
 
 /// Prints generated scripts of the sender or of a leaf.
 pub fn generate(area: Area, seed: u64, count: u64) -> Result<(), ()> {
-    let parties = parties(Bend::None);
+    let parties = parties(party::model(Bend::None));
     for seed in seed..seed + count {
         let script = match area {
             Area::Sender => sender_script(&parties, seed)?,

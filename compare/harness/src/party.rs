@@ -1,5 +1,4 @@
-//! Those who answer: the Rust in both copies, the model, and whoever else
-//! implements the traits. A linked library enters by one more function here.
+//! Those who answer: the Rust in both copies, the model, and the proved library.
 
 use calls::{Leaves, PacingState, Refusal, Run, Sender, Settings, State};
 use model::{Bend, Model, ModelLeaves};
@@ -17,8 +16,7 @@ pub struct Party {
     /// Whether it refuses by itself what document 01 refuses by a call's
     /// arguments alone. The Rust doesn't, and isn't given such calls.
     pub refuses: bool,
-    /// None of a party that has the leaves alone.
-    make: Option<Make>,
+    make: Make,
     leaves: Box<dyn Leaves>,
 }
 
@@ -26,9 +24,7 @@ pub fn unmodified() -> Party {
     Party {
         name: "unmodified",
         refuses: false,
-        make: Some(Box::new(|settings| {
-            Ok(Box::new(srt_unmodified::judge::Judge::new(settings)))
-        })),
+        make: Box::new(|settings| Ok(Box::new(srt_unmodified::judge::Judge::new(settings)))),
         leaves: Box::new(srt_unmodified::judge::LeavesJudge::default()),
     }
 }
@@ -37,9 +33,7 @@ pub fn repaired() -> Party {
     Party {
         name: "repaired",
         refuses: false,
-        make: Some(Box::new(|settings| {
-            Ok(Box::new(srt_repaired::judge::Judge::new(settings)))
-        })),
+        make: Box::new(|settings| Ok(Box::new(srt_repaired::judge::Judge::new(settings)))),
         leaves: Box::new(srt_repaired::judge::LeavesJudge::default()),
     }
 }
@@ -48,33 +42,25 @@ pub fn model(bend: Bend) -> Party {
     Party {
         name: "model",
         refuses: true,
-        make: Some(Box::new(move |settings| {
-            Ok(Box::new(Model::new(settings, bend)?))
-        })),
+        make: Box::new(move |settings| Ok(Box::new(Model::new(settings, bend)?))),
         leaves: Box::new(ModelLeaves { bend }),
     }
 }
 
-/// The proved leaves, where they were at hand when this was built.
+/// The proved library, where it was at hand when this was built.
 pub fn rattle(bend: rattle::Bend) -> Option<Party> {
+    let (make, leaves) = rattle::library(bend)?;
     Some(Party {
         name: "rattle",
         refuses: true,
-        make: None,
-        leaves: rattle::leaves(bend)?,
+        make,
+        leaves,
     })
 }
 
 impl Party {
-    pub fn has_sender(&self) -> bool {
-        self.make.is_some()
-    }
-
     pub fn sender(&self, settings: &Settings) -> Made {
-        match &self.make {
-            Some(make) => make(settings),
-            None => panic!("{} has the leaves alone", self.name),
-        }
+        (self.make)(settings)
     }
 
     pub fn bench(&self) -> Bench<'_> {

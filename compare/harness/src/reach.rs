@@ -166,8 +166,14 @@ impl Reached {
         self.print_some(&mut refusals.chain(inside))
     }
 
-    /// The same of the sender's scripts, but for what takes a message of more
-    /// than 512 bytes.
+    /// The same of the sender's scripts: none brings as much as CountFull takes.
+    pub fn print_scripts(&self) -> usize {
+        let all = 0..Reach::TimerSeveral as usize;
+        self.print_some(&mut all.filter(|index| *index != Reach::Refused6 as usize))
+    }
+
+    /// The same of the stored sessions: all but what takes a message of more than
+    /// 512 bytes.
     pub fn print_sender(&self) -> usize {
         self.print_some(&mut of_small())
     }

@@ -112,7 +112,7 @@ fn store(calls: &[Call]) -> Result<(), String> {
 /// Makes the sessions anew: the ten bytes, then of so many generated scripts
 /// those that reach or notice what none before them did.
 pub fn make(seed: u64, count: u64) -> Result<(), String> {
-    let parties = modes::parties(Bend::None);
+    let parties = modes::parties(party::model(Bend::None));
     let mut reached = Reached::default();
     let mut calls = ten_bytes(&parties, &mut reached)?;
     let mut shown = noticed(&calls);

@@ -1,11 +1,16 @@
 //! Stored scripts and the answers of the Rust in both copies and of the model:
 //! document 01's figures, and the differences outside the domain. An answers
 //! file has a section for each group of parties that answer alike, headed
-//! `## names`.
+//! `## names`. The proved library must answer as the model does.
 
 use model::Bend;
 
-use crate::{answering, call::Call, parse, party};
+use crate::{
+    answering,
+    call::Call,
+    parse,
+    party::{self, Party},
+};
 
 macro_rules! stored {
     ($($name:literal)*) => {
@@ -62,6 +67,13 @@ pub fn sections(calls: &[(usize, Call)]) -> String {
     groups.iter().map(section).collect()
 }
 
+/// Whether the proved library, where it is at hand, answers as the model does.
+fn as_proved(calls: &[(usize, Call)]) -> bool {
+    let of = |party: &Party| answering::answers(party, calls);
+    let proved = party::rattle(rattle::Bend::None);
+    proved.is_none_or(|proved| of(&proved) == of(&party::model(Bend::None)))
+}
+
 /// Holds the stored answers against those given now.
 pub fn check(slow: bool) -> Result<(), String> {
     let slow = if slow { SLOW } else { &[] };
@@ -71,6 +83,9 @@ pub fn check(slow: bool) -> Result<(), String> {
         let now = sections(&calls);
         if now != *answers {
             return Err(format!("DIFFERENCE from {name}.answers:\n{now}"));
+        }
+        if !as_proved(&calls) {
+            return Err(format!("DIFFERENCE of the proved library in {name}.script"));
         }
     }
     println!(

@@ -1,5 +1,6 @@
-//! Answers of the proved leaves bent on their way: the code itself can't be,
-//! since it wouldn't be proved. A comparison that lets one pass is blind.
+//! Answers of the proved code, and what it is given, bent on their way: the code
+//! itself can't be, since it wouldn't be proved. A comparison that lets one pass
+//! is blind.
 
 macro_rules! bends {
     ($($area:literal: $($name:ident $text:literal)*;)*) => {
@@ -10,7 +11,7 @@ macro_rules! bends {
             $($($name,)*)*
         }
 
-        /// Every bend, the leaf where it shows and what it does.
+        /// Every bend, where it shows (the sender or a leaf) and what it does.
         pub const BENDS: &[(Bend, &str, &str)] = &[
             $($((Bend::$name, $area, $text),)*)*
         ];
@@ -18,6 +19,58 @@ macro_rules! bends {
 }
 
 bends! {
+    "sender":
+        LastByteTurned "a message's last byte is given turned over"
+        MadeOneMore "a message makes one packet more"
+        RemovedUntold "packets removed aren't told"
+        WireBytesOneLess "the wire bytes removed are one less"
+        PeriodUntold "a message tells no period"
+        RttNotGiven "an ACK's RTT isn't given"
+        ReceivedOneMore "an ACK receives one packet more"
+        RecoveredUntold "packets recovered aren't told"
+        FullUntold "the full number isn't told"
+        StaleRttLost "a stale full ACK's RTT isn't kept"
+        KindsTurned "Ignored and Dropped are swapped"
+        FirstOneUp "a loss run's first number is one up"
+        EndIncluded "a loss run's end is its last number"
+        LastRunUntold "the last loss run isn't told"
+        DrainNotGiven "a run isn't given that it drains"
+        TimeAsLoss "a resend by time is told as one by loss"
+        WaitsTurned "the two waits are swapped"
+        PlaceUntold "a record has no place"
+        AgainUntold "a record has no retransmitted flag"
+        LengthOneMore "a record's length is one more"
+        NumberOneUp "a record's number is one up"
+        MessageUntold "a record has no message number"
+        DropEndIncluded "a drop's end is its last number"
+        UnackedOneLess "a wait tells one unacknowledged packet less"
+        StampUntold "a record has no stamp"
+        WindowAsSet "a wait tells the flow window"
+        TimeIsStamp "a record's time is its stamp"
+        LastRecordUntold "the last record isn't told"
+        LeftOneMore "the budget left is one more"
+        NextSlot "a payload is read one slot further"
+        LastByteUntold "a payload lacks its last byte"
+        HeaderPlaceLost "a header has no place"
+        HeaderNeverAgain "a header has no retransmitted flag"
+        FlushedTurned "the report flushed is turned over"
+        ToSendTurned "the report of packets to send is turned over"
+        PacketsOneMore "the report of packets is one more"
+        BytesOneMore "the report of bytes is one more"
+        TimeUntold "the report of time is 0"
+        NumberOfRefusal "a refusal has the next number"
+        ValuesTurned "a refusal's first two values are swapped"
+        HeldLost "the flushed packet isn't kept"
+        ExpectedStays "the expected full number stays"
+        ResendOneLater "the front's resend time is kept one later"
+        LossForgotten "a number of the loss list isn't kept"
+        StoreTurned "a byte of the store is turned over"
+        ListPastAnswer "a lent list is written past its answer"
+        RefusedSender "a refused call changes the sender"
+        RefusedRing "a refused call changes the ring"
+        RefusedLost "a refused call changes the loss list"
+        RefusedStore "a refused call changes the store"
+        RefusedList "a refused call changes its answer list";
     "timer":
         TimerKept "a timer isn't moved by a check"
         OnePeriodMore "a timer tells one period more"

@@ -2,7 +2,7 @@
 //! that stand for nothing. Each must be refused as document 01 says, with what
 //! was given given back.
 
-use crate::library::{self, Estimate, Pacing, Rtt, Timer, Timers};
+use crate::library::{self, Pacing, Rtt, Timer, Timers};
 
 const SETTING: u32 = 1;
 const STATE: u32 = 3;
@@ -94,44 +94,29 @@ fn broken_sets(good: Timers) -> Vec<Timers> {
 }
 
 /// Pacing of which one field breaks a rule, or stands for nothing.
-fn broken_pacing(good: Pacing) -> Vec<Pacing> {
-    let (count, mean, variance) = (1 << 38, 1 << 42, 1 << 42);
-    let estimate = |count, mean, variance| Estimate {
-        count,
-        mean,
-        variance,
+pub fn broken_pacing(good: Pacing) -> Vec<Pacing> {
+    let with = |change: fn(&mut Pacing)| {
+        let mut pacing = good;
+        change(&mut pacing);
+        pacing
     };
-    let mut sets = vec![
-        Pacing { mode: 4, ..good },
-        Pacing {
-            rate: (1 << 40) + 1,
-            ..good
-        },
-        Pacing {
-            overhead: 10_001,
-            ..good
-        },
-        Pacing {
-            next: 1 << 49,
-            ..good
-        },
-        Pacing {
-            begun: false,
-            ..good
-        },
-    ];
-    for bad in [
-        estimate(count + 1, mean, variance),
-        estimate(count, mean + 1, variance),
-        estimate(count, mean, variance + 1),
-    ] {
-        sets.push(Pacing {
-            packets: bad,
-            ..good
-        });
-        sets.push(Pacing { bytes: bad, ..good });
-    }
-    sets
+    vec![
+        with(|p| p.mode = 4),
+        with(|p| (p.mode, p.rate) = (2, 0)),
+        with(|p| (p.mode, p.rate) = (3, 0)),
+        with(|p| (p.mode, p.overhead) = (3, 0)),
+        with(|p| p.rate = (1 << 40) + 1),
+        with(|p| p.overhead = 10_001),
+        with(|p| p.begun = 0),
+        with(|p| p.begun = 2),
+        with(|p| p.next = 1 << 49),
+        with(|p| p.packets.count = (1 << 38) + 1),
+        with(|p| p.packets.mean = (1 << 42) + 1),
+        with(|p| p.packets.variance = (1 << 42) + 1),
+        with(|p| p.bytes.count = (1 << 38) + 1),
+        with(|p| p.bytes.mean = (1 << 42) + 1),
+        with(|p| p.bytes.variance = (1 << 42) + 1),
+    ]
 }
 
 fn pacing_refused(pacing: Pacing) -> bool {
@@ -142,12 +127,13 @@ fn pacing_refused(pacing: Pacing) -> bool {
 pub fn all() -> Vec<(&'static str, bool)> {
     let timers = library::timers_new(7, 1_000, 1_000).timers;
     let pacing = Pacing {
-        begun: true,
+        begun: 1,
         next: 1,
         ..library::pacing_new(1, 1 << 40, 10_000).pacing
     };
-    let no_mode = library::pacing_new(4, 0, 0);
-    let mut all = vec![("no mode", no_mode.refusal == SETTING)];
+    let no_modes = [(4, 0, 0), (2, 0, 1), (3, 1, 0), (3, 0, 1)];
+    let no_mode = |(mode, rate, overhead)| library::pacing_new(mode, rate, overhead).refusal;
+    let mut all = Vec::from(no_modes.map(|mode| ("no mode", no_mode(mode) == SETTING)));
     all.extend(broken_timers().map(|timer| ("timer", timer_refused(timer))));
     let sets = broken_sets(timers).into_iter();
     all.extend(sets.map(|timers| ("timers", timers_refused(timers))));

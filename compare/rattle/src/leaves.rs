@@ -9,7 +9,7 @@ use crate::{
     Bend,
 };
 
-/// The refusal of a number; the leaves give none that brings values.
+/// The refusal of a number: those that the leaves give bring no values.
 pub fn refused(number: u32) -> Result<(), Refusal> {
     Err(match number {
         0 => return Ok(()),
@@ -21,7 +21,7 @@ pub fn refused(number: u32) -> Result<(), Refusal> {
         6 => Refusal::CountFull,
         7 => Refusal::BadNumber,
         8 => Refusal::BadRtt,
-        other => panic!("the leaves have no refusal {other}"),
+        other => panic!("there is no refusal {other} here"),
     })
 }
 

@@ -10,13 +10,26 @@ pub struct Pacing {
 }
 
 /// Number, rate and overhead of a mode.
-fn mode_of(mode: Mode, bend: Bend) -> (u32, u64, u64) {
+pub fn mode_of(mode: Mode, bend: Bend) -> (u32, u64, u64) {
     match mode {
         Mode::Input { rate, overhead } if bend == Bend::InputAsEstimated => (1, rate, overhead),
         Mode::Input { rate, overhead } => (0, rate, overhead),
         Mode::Estimated { expected, overhead } => (1, expected, overhead),
         Mode::Max(rate) => (2, rate, 0),
         Mode::Unlimited => (3, 0, 0),
+    }
+}
+
+/// What is kept, as it is compared.
+pub fn books(pacing: &library::Pacing) -> PacingState {
+    PacingState {
+        next: (pacing.begun == 1).then_some(pacing.next),
+        packets: pacing.packets.count,
+        bytes: pacing.bytes.count,
+        packet_mean: pacing.packets.mean,
+        packet_variance: pacing.packets.variance,
+        byte_mean: pacing.bytes.mean,
+        byte_variance: pacing.bytes.variance,
     }
 }
 
@@ -57,15 +70,6 @@ impl calls::Pacing for Pacing {
     }
 
     fn state(&self) -> PacingState {
-        let pacing = &self.pacing;
-        PacingState {
-            next: pacing.begun.then_some(pacing.next),
-            packets: pacing.packets.count,
-            bytes: pacing.bytes.count,
-            packet_mean: pacing.packets.mean,
-            packet_variance: pacing.packets.variance,
-            byte_mean: pacing.bytes.mean,
-            byte_variance: pacing.bytes.variance,
-        }
+        books(&self.pacing)
     }
 }
