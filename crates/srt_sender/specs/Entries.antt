@@ -5,6 +5,7 @@
 --   Ran, ran, run                     a run's
 --   payload, reports                  these change nothing lent
 -- Assumes nothing.
+pub mod Coincide
 pub mod Laws
 use mathlib.Core.Bool.{Bool}
 use mathlib.Core.List.{List}
