@@ -25,6 +25,7 @@ mod record;
 mod rng;
 mod sample;
 mod session_record;
+mod session_refusals;
 mod sessions;
 mod shrink;
 mod stored;

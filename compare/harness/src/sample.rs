@@ -49,9 +49,14 @@ fn get(variable: &str, name: &str) -> Result<Vec<u8>, String> {
     fs::read(&path).map_err(|fault| format!("{}: {fault}", path.display()))
 }
 
-/// The calls that a program has stored.
-pub fn stored<T>(variable: &str, read: impl Fn(&[u8]) -> Option<T>) -> Result<Vec<T>, String> {
-    let records = get(variable, "stdin")?;
+/// The calls that a program has stored, but for those at its end.
+pub fn stored<T>(
+    variable: &str,
+    end: &[u8],
+    read: impl Fn(&[u8]) -> Option<T>,
+) -> Result<Vec<T>, String> {
+    let all = get(variable, "stdin")?;
+    let records = all.strip_suffix(end).ok_or("stdin: it ends otherwise")?;
     let call = |(index, bytes)| read(bytes).ok_or(format!("stdin: record {index} is no call"));
     let records = records.chunks(record::SIZE).enumerate();
     records.map(call).collect()
@@ -231,7 +236,7 @@ pub fn make(seed: u64, count: usize) -> Result<(), String> {
 
 /// Holds the stored answers against what the Rust answers now.
 pub fn check() -> Result<(), String> {
-    let calls = stored(FOLDER, record::read)?;
+    let calls = stored(FOLDER, &[], record::read)?;
     let now = lines(&calls).ok_or("stdin: a call has no line")?;
     same(FOLDER, "sample", &now)?;
     println!("stored sample answered as stored: {} calls", calls.len());

@@ -1,6 +1,7 @@
 //! The stored sessions: scripts of the sender as records (crates/sessions/stdin)
 //! and the repaired copy's answers (crates/sessions/stdout), which
-//! crates/sessions must print. They begin with document 01's ten bytes.
+//! crates/sessions must print. They begin with document 01's ten bytes and end
+//! with refusals that the Rust doesn't give.
 
 use calls::{Settings, State};
 use model::{Area, Bend, BENDS};
@@ -15,7 +16,7 @@ use crate::{
     parse, party,
     reach::Reached,
     sample::{put, same, stored},
-    session_record as record,
+    session_record as record, session_refusals as refusals,
     trial::{play, Parties, Tally},
 };
 
@@ -105,8 +106,8 @@ fn noticed(calls: &[Call]) -> Vec<bool> {
 fn store(calls: &[Call]) -> Result<(), String> {
     let records: Option<Vec<Vec<u8>>> = calls.iter().map(record::write).collect();
     let records = records.ok_or("a call of the sessions has no record")?;
-    let lines = answering::plain(&party::repaired(), calls);
-    put(FOLDER, &records.concat(), &lines)
+    let lines = answering::plain(&party::repaired(), calls) + &refusals::lines();
+    put(FOLDER, &[records.concat(), refusals::records()].concat(), &lines)
 }
 
 /// Makes the sessions anew: the ten bytes, then of so many generated scripts
@@ -151,8 +152,9 @@ pub fn make(seed: u64, count: u64) -> Result<(), String> {
 
 /// Holds the stored answers against what the Rust answers now.
 pub fn check() -> Result<(), String> {
-    let calls = stored(FOLDER, record::read)?;
-    let now = answering::plain(&party::repaired(), &calls);
+    let end = refusals::records();
+    let calls = stored(FOLDER, &end, record::read)?;
+    let now = answering::plain(&party::repaired(), &calls) + &refusals::lines();
     same(FOLDER, "sessions", &now)?;
     println!("stored sessions answered as stored: {} calls", calls.len());
     Ok(())

@@ -35,10 +35,13 @@ fn other(s: Sender, r: Record, ring: &[u64], lost: &[u32], store: &[u8]) -> Send
         questions::payload(s, low(r.a), ring, lost, store);
         return s;
     }
-    starts::preset(s, low(r.a))
+    if r.operation == 8 {
+        return starts::preset_message(s, low(r.a));
+    }
+    starts::preset_bytes(s, r.a)
 }
 
-// Operations 2 to 5 are message, ACK, loss report and run; 6 reports, 7 asks for a payload, 8 presets the message counter.
+// Operations 2 to 5 are message, ACK, loss report and run; 6 reports, 7 asks for a payload, 8 and 9 preset the message counter and the byte count.
 fn on(s: Sender, r: Record, ring: &mut [u64], lost: &mut [u32], store: &mut [u8]) -> Sender {
     let operation = r.operation;
     match operation {

@@ -1,4 +1,4 @@
-// A sender is made, and its message counter set.
+// A sender is made, and a kept number of it set.
 use crate::Desk;
 use crate::record::Record;
 use crate::record::high;
@@ -48,8 +48,8 @@ pub(crate) fn new(r: Record) -> Desk {
     }
 }
 
-// The same books with another message number.
-fn with(b: SendBuffer, message: MsgNumber) -> SendBuffer {
+// The same books with another message number and byte count.
+fn with(b: SendBuffer, message: MsgNumber, bytes: u64) -> SendBuffer {
     let ring = b.ring;
     let front = b.front;
     let rtt = b.rtt;
@@ -59,7 +59,7 @@ fn with(b: SendBuffer, message: MsgNumber) -> SendBuffer {
         front,
         sent: b.sent,
         lost: b.lost,
-        bytes: b.bytes,
+        bytes,
         rtt,
         message,
         expected: b.expected,
@@ -67,14 +67,25 @@ fn with(b: SendBuffer, message: MsgNumber) -> SendBuffer {
     }
 }
 
-// No call of the product: the script sets the message counter, so that its wrap is reached.
-pub(crate) fn preset(s: Sender, number: u32) -> Sender {
+fn holding(s: Sender, buffer: SendBuffer) -> Sender {
     let settings = s.settings;
     let pacing = s.pacing;
     show::text(b"done");
     Sender {
         settings,
-        buffer: with(s.buffer, MsgNumber(number)),
+        buffer,
         pacing,
     }
+}
+
+// No call of the product: the script sets the message counter, so that its wrap is reached, or one that is out of its range.
+pub(crate) fn preset_message(s: Sender, number: u32) -> Sender {
+    let b = s.buffer;
+    holding(s, with(b, MsgNumber(number), b.bytes))
+}
+
+// Nor this: it sets the byte count, so that its end is reached.
+pub(crate) fn preset_bytes(s: Sender, bytes: u64) -> Sender {
+    let b = s.buffer;
+    holding(s, with(b, b.message, bytes))
 }
