@@ -2,11 +2,13 @@
 # make demo     the hub's morning over the rollover of the stamp, on a simulated clock, and what judging lateness on the stamp leads to
 # make figures  builds what is proved and prints document 01's figures that it decides
 # make compare  the whole comparison with the Rust, some minutes
+# make bench    times the library and the Rust on the same calls, about two minutes, and writes docs/SPEED.md
+# make fuzz     fuzzes the library's entries for FUZZ_SECONDS (60); what is found is kept in fuzz/cases/
 # make lib      the static library that a host links: target/staticlib/libsrt_sender.a
 # make ctest    the library tried from C: tests/run
 # make example  builds and runs examples/picture.c
 # make install  the header, the library and srt_sender.pc below PREFIX (/usr/local), below DESTDIR where that is given
-.PHONY: test demo figures compare lib ctest example install
+.PHONY: test demo figures compare bench fuzz lib ctest example install
 
 CC = gcc
 CFLAGS = -std=c99 -O1 -g -Wall -Wextra -pedantic
@@ -33,6 +35,12 @@ figures:
 
 compare:
 	compare/run full
+
+bench: $(LIB)
+	bench/run
+
+fuzz: $(LIB)
+	fuzz/run
 
 lib:
 	rt staticlib srt_sender

@@ -1,0 +1,39 @@
+//! Compiles library.c against the library's header and links both: `SRT_ARCHIVE`
+//! names the folder of libsrt_sender.a.
+
+use std::{env, path::Path, process::Command};
+
+fn run(command: &mut Command) {
+    let status = command.status().expect("the tool is at hand");
+    assert!(status.success(), "{command:?}");
+}
+
+fn main() {
+    let folder = env::var("SRT_ARCHIVE").expect("SRT_ARCHIVE names a folder");
+    let out = env::var("OUT_DIR").expect("cargo sets it");
+    let object = format!("{out}/library.o");
+    let archive = format!("{out}/liblent.a");
+    run(Command::new("cc")
+        .args([
+            "-std=c11",
+            "-O2",
+            "-Wall",
+            "-Wextra",
+            "-Werror",
+            "-I../include",
+        ])
+        .args(["-c", "library.c", "-o", &object]));
+    run(Command::new("ar").args(["rcs", &archive, &object]));
+    for file in ["library.c", "../include/srt_sender.h"] {
+        println!("cargo::rerun-if-changed={file}");
+    }
+    println!("cargo::rerun-if-env-changed=SRT_ARCHIVE");
+    println!(
+        "cargo::rerun-if-changed={}",
+        Path::new(&folder).join("libsrt_sender.a").display()
+    );
+    println!("cargo::rustc-link-search=native={out}");
+    println!("cargo::rustc-link-search=native={folder}");
+    println!("cargo::rustc-link-lib=static=lent");
+    println!("cargo::rustc-link-lib=static=srt_sender");
+}
