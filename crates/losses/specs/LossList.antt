@@ -3,35 +3,37 @@
 -- without repeats, all sent". The order goes by a key of each number: the contracts put in its distance from the front, `dist seqs front`.
 -- It stands farthest first, so that the number nearest the front is the last, and what goes, goes from the end.
 --   over xs e               the area e with the list xs in its first elements; those behind stay as they are
---   insert key x xs         x enters once, behind those with a larger key
---   entered key x k xs      "Added numbers enter the list once": the k numbers from x on
 --   staying key k n e       how many of the first n elements of e stay, where those with a key below k go from the end
+--   falling x k             the k numbers from x on, the last of them first
+--   entered key x k xs      "Added numbers enter the list once": the k numbers from x on, between the entries beyond them and the nearer ones
 --   descends key hi xs      each a number, its key below hi, descending without repeats
 --   keeps front sent n e    the book rules of the first n elements of e, where `sent` packets are sent from the front on
 -- Assumes nothing.
 pub mod Laws
+pub mod Runs
 pub mod Stands
 use mathlib.Core.Bool.{Bool, true, _&&_, cond}
 use mathlib.Core.List.{List, [], _∷_, _++_}
 use Prim.Native.Nat.{ℕ, zero, suc}
-use lib.Dec.{ltb, leb, eqb}
+use lib.Dec.{ltb, leb}
 use lib.ListN.{length, take, drop, getD}
 use Rattle.numbers.specs.Modular.{seqs, plus, dist}
 
 abbrev pub over : List ℕ → List ℕ → List ℕ
 over xs e = xs ++ drop (length xs) e
 
-unfoldable pub insert : (ℕ → ℕ) → ℕ → List ℕ → List ℕ
-insert key x [] = x ∷ []
-insert key x (y ∷ ys) = cond (ltb (key y) (key x)) (x ∷ y ∷ ys) (cond (eqb (key x) (key y)) (y ∷ ys) (y ∷ insert key x ys))
-
-unfoldable pub entered : (ℕ → ℕ) → ℕ → ℕ → List ℕ → List ℕ
-entered key x zero xs = xs
-entered key x (suc k) xs = insert key (plus seqs x k) (entered key x k xs)
-
 unfoldable pub staying : (ℕ → ℕ) → ℕ → ℕ → List ℕ → ℕ
 staying key k zero e = 0
 staying key k (suc n) e = cond (ltb (key (getD e n 0)) k) (staying key k n e) (suc n)
+
+unfoldable pub falling : ℕ → ℕ → List ℕ
+falling x zero = []
+falling x (suc k) = plus seqs x k ∷ falling x k
+
+unfoldable pub entered : (ℕ → ℕ) → ℕ → ℕ → List ℕ → List ℕ
+entered key x k xs =
+    let q = staying key (key x) (length xs) xs in
+    take (staying key (key (plus seqs x k)) q xs) xs ++ (falling x k ++ drop q xs)
 
 -- of one entry: its key, and the entry itself "all sent"
 abbrev pub inOrder : ℕ → ℕ → ℕ → Bool

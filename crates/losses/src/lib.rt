@@ -2,73 +2,52 @@
 // the Rust's `SendBuffer` keeps in its `lost_list`, a `BTreeSet`. Order is by distance from the front, farthest first, so that what is
 // resent or acknowledged goes from the end: the list is shorter then, and no entry moves.
 ghost use mathlib.Core.Path.{_≡_};
-ghost use mathlib.Core.List.{_∷_, _++_};
-ghost use Prim.Native.Nat.{_+_, _-_, _≤_, _<_};
-ghost use lib.ListN.{length, take, drop, getD};
-ghost use lib.Seq.{slice};
+ghost use Prim.Native.Nat.{_+_, _-_, _≤_};
+ghost use lib.ListN.{length, take, getD};
 ghost use Rattle.numbers.specs.Modular.{seqs, dist};
-ghost use Rattle.losses.specs.LossList.{insert, entered, staying, inOrder, keeps};
-ghost use Rattle.losses.specs.LossList.Laws.{Fits, Left, Filled, Placed};
+ghost use Rattle.losses.specs.LossList.{entered, staying, inOrder, keeps};
+ghost use Rattle.losses.specs.LossList.Laws.{Fits, Left, Filled, moved, written};
 use numbers::SeqNumber;
 
-// How many entries lie farther from the front than `x`.
-fn place_of(list: &[u32], len: usize, front: SeqNumber, x: SeqNumber) -> usize
-    requires { ⌜ len ≤ length (now list) ⌝ }
-    ensures { λ r. ⌜ Placed (dist seqs (front .0)) (dist seqs (front .0) (x .0)) (now (list .entry)) len r ⌝ }
-{
-    let k = front.distance(x);
-    let mut i = 0;
-    while i < len {
-        let y = list[i];
-        if front.distance(SeqNumber(y)) <= k {
-            return i;
-        }
-        i += 1;
-    }
-    i
-}
-
-// Puts `x` at `at`; the entries from there on move one further.
-fn insert_at(list: &mut [u32], at: usize, len: usize, x: u32)
-    requires { ⌜ (at ≤ len) × (len < length (now list)) ⌝ }
-    ensures { λ _. ⌜ now (list .exit) ≡ take at (now (list .entry)) ++ (x ∷ (slice at len (now (list .entry)) ++ drop (len + 1) (now (list .entry)))) ⌝ }
+// Moves the entries from `from` up to `len` by `by` further, the last one first. What lies before their new place stays.
+fn move_up(list: &mut [u32], from: usize, len: usize, by: usize)
+    requires { ⌜ (from ≤ len) × (len + by ≤ length (now list)) ⌝ }
+    ensures { λ _. ⌜ now (list .exit) ≡ moved (now (list .entry)) from len by ⌝ }
 {
     let mut i = len;
-    while at < i {
-        list[i] = list[i - 1];
+    while from < i {
         i -= 1;
+        list[i + by] = list[i];
     }
-    list[at] = x;
 }
 
-// Enters `x` once. The answer is the list's new length.
-pub fn insert(list: &mut [u32], len: usize, front: SeqNumber, x: SeqNumber) -> usize
-    requires { ⌜ Fits len (insert (dist seqs (front .0)) (x .0) (take len (now list))) (now list) ⌝ }
-    ensures { λ r. ⌜ Left r (now (list .exit)) (insert (dist seqs (front .0)) (x .0) (take len (now (list .entry)))) (now (list .entry)) ⌝ }
+// Writes the `count` numbers from `first` on before `end`, the last of them first.
+fn write_run(list: &mut [u32], end: usize, first: SeqNumber, count: u32)
+    requires { ⌜ (count ≤ end) × (end ≤ length (now list)) ⌝ }
+    ensures { λ _. ⌜ now (list .exit) ≡ written (now (list .entry)) (end - count) end (first .0) count ⌝ }
 {
-    let at = place_of(list, len, front, x);
-    if at < len {
-        let y = list[at];
-        if front.distance(SeqNumber(y)) == front.distance(x) {
-            return len;
-        }
+    let mut n = end;
+    let mut i: u32 = 0;
+    while i < count {
+        n -= 1;
+        list[n] = first.plus(i).0;
+        i += 1;
     }
-    insert_at(list, at, len, x.0);
-    len + 1
 }
 
-// Enters the `count` numbers from `first` on, each once. The answer is the list's new length.
+// Enters the `count` numbers from `first` on, each once, in place of those of them that are there. The answer is the list's new length.
 pub fn enter(list: &mut [u32], len: usize, front: SeqNumber, first: SeqNumber, count: u32) -> usize
     requires { ⌜ Fits len (entered (dist seqs (front .0)) (first .0) count (take len (now list))) (now list) ⌝ }
     ensures { λ r. ⌜ Left r (now (list .exit)) (entered (dist seqs (front .0)) (first .0) count (take len (now (list .entry)))) (now (list .entry)) ⌝ }
 {
-    let mut n = len;
-    let mut i: u32 = 0;
-    while i < count {
-        n = insert(list, n, front, first.plus(i));
-        i += 1;
-    }
-    n
+    // how many entries lie no nearer than the run's first number, and how many beyond its last
+    let near = remove_below(list, len, front, first);
+    let far = remove_below(list, near, front, first.plus(count));
+    let end = far + count as usize;
+    let by = end - near;
+    move_up(list, near, len, by);
+    write_run(list, end, first, count);
+    len + by
 }
 
 // The number nearest the front, the last of the list, which is one shorter without it.

@@ -32,7 +32,7 @@ module _ (f : ℕ) (ws e : List ℕ) (n count : ℕ) (R : Readable ws count f n 
   pub entering-none : Entering f ws e n count n 0 e
   unfolding enteredTo
   entering-none =
-      let long : length (take n e) ≡ n = length-take-le n e (R .fits .inside) in
+      let long : length (take n e) ≡ n = length-take-le n e (R .inside) in
       record { inside = omega arith; left = record { count = sym long; area = rw long (sym (take-append-drop n e)) }; same = refl }
 
   module _ (m i : ℕ) (l : List ℕ) (E : Entering f ws e n count m i l) where
@@ -46,12 +46,16 @@ module _ (f : ℕ) (ws e : List ℕ) (n count : ℕ) (R : Readable ws count f n 
     unfolding enteredTo
     more = rw (add-one i) (ap next seen)
 
+    step : i < count → length (enteredTo f ws i (take n e)) ≤ length (enteredTo f ws (i + 1) (take n e))
+    step h = rw (add-one i) (R .grows i h)
+
     room : i < count → length (enteredTo f ws (i + 1) (take n e)) ≤ length e
-    room h = omega (arith, entered-longest f ws (i + 1) count (take n e) (omega arith), R .fits .room)
+    room h = omega (arith, entered-longest f ws (i + 1) count (take n e) (R .grows) (omega arith), R .room)
 
     pub entering-fits : i < count → Fits m (next (take m l)) l
     entering-fits h = record {
-      inside = omega (arith, E .left .count, E .same, R .fits .room, entered-longest f ws i count (take n e) (E .inside));
+      inside = omega (arith, E .left .count, E .same, R .room, entered-longest f ws i count (take n e) (R .grows) (E .inside));
+      grows = rw more (omega (arith, E .left .count, step h));
       room = rw (more, E .same) (room h);
     }
 
@@ -60,7 +64,7 @@ module _ (f : ℕ) (ws e : List ℕ) (n count : ℕ) (R : Readable ws count f n 
         let area : l′ ≡ over (enteredTo f ws (i + 1) (take n e)) e =
         rw more at (L .area)
         ∙ ap (over (enteredTo f ws (i + 1) (take n e))) (E .left .area)
-        ∙ over-over (enteredTo f ws i (take n e)) (enteredTo f ws (i + 1) (take n e)) e (entered-longest f ws i (i + 1) (take n e) (omega arith)) in
+        ∙ over-over (enteredTo f ws i (take n e)) (enteredTo f ws (i + 1) (take n e)) e (step h) in
         record {
           inside = omega arith;
           left = record { count = rw more at (L .count); area = area };

@@ -69,8 +69,8 @@ fn enter_runs(runs: &[u32], count: usize, front: SeqNumber, lost: &mut [u32], le
     n
 }
 
-// Enters the Added numbers of a well-formed report into the loss list, and writes the answer's runs to `out`. The cost goes with the numbers
-// that are Added, never with the width of a range.
+// Enters the Added numbers of a well-formed report into the loss list, and writes the answer's runs to `out`. The cost is one pass
+// over the list for each run, and the numbers that are Added, never the width of a range.
 pub fn add_to_loss_list(b: SendBuffer, words: &[u32], lost: &mut [u32], out: &mut [u32]) -> Reported
     requires { ⌜ Reportable b (now words) (now lost) (now out) ⌝ }
     ensures { λ r. ⌜ left r (now (lost .exit)) (now (out .exit)) ≡ add b (now (words .entry)) (now (lost .entry)) (now (out .entry)) ⌝ }

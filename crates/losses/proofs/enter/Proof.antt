@@ -1,69 +1,75 @@
--- `losses::enter` meets its contract: each turn of the loop enters one number more (`Entering`).
+-- `losses::enter` meets its contract: between the two places that `remove_below` finds, the moves and the writes leave what `Entering` says.
 -- Assumes nothing.
-use Prim.Native.Nat.{_-_}
+use native.Mathlib.Omega.{arith}
 use Rattle.numbers.specs.Modular.{seqs, dist}
-use Rattle.losses.proofs.Entering.{Entering, entering-none, entering-fits, entering-step, entering-all}
+use Rattle.losses.specs.LossList.Laws.{Entering, entering, staying-few}
 use borrow.Author.Needs.{needs}
 use Rattle.losses.proofs.enter.Statement.{statement}
 use Rattle.losses.proofs.enter.Tie as tie
 
-abbrev Inv-loop : tie.InvT-loop
-Inv-loop list₀ len front first count n₀ i₀ list n i =
-    Entering (dist seqs (front .0)) (first .0) list₀ len count n i list
+-- the two places
+places : (c : tie.After-remove-below2)
+    → Entering (dist seqs (c .before .before .before .before .before .before .args .front .0)) (c .before .before .before .before .before .before .args .first .0)
+    (c .before .before .before .before .before .before .args .count) (c .before .before .before .before .before .before .args .len)
+    (c .before .before .before .before .before .before .args .list .now) (c .before .before .before .remove-below .result) (c .remove-below2 .result)
+places c =
+    let s = c .before .before .before .before .before .before in
+    let n = c .before .before .before .remove-below in
+    entering (dist seqs (s .args .front .0)) (s .args .first .0) (s .args .count) (s .args .len) (s .args .list .now) (n .result) (c .remove-below2 .result)
+    (n .ensures) (rw (c .before .plus .ensures) at (c .remove-below2 .ensures)) (s .pre)
 
-abbrev μ-loop : tie.MeasureT-loop
-μ-loop list₀ len front first count n₀ i₀ list n i = count - i
+remove-below-requires : tie.Need-remove-below-requires
+remove-below-requires c κs = search needs
 
-loop-holds : tie.Need-loop-holds Inv-loop μ-loop
-loop-holds c = let s = c .before in entering-none (dist seqs (s .args .front .0)) (s .args .first .0) (s .args .list .now) (s .args .len) (s .args .count) (s .pre)
-
-plus-requires : tie.Need-plus-requires Inv-loop μ-loop
+plus-requires : tie.Need-plus-requires
 plus-requires c κs = search needs
 
-insert-requires : tie.Need-insert-requires Inv-loop μ-loop
-insert-requires c κs =
-    let lp = c .before .before .before in
-    let s = lp .before .before in
-    rw (c .plus .ensures)
-    (entering-fits (dist seqs (s .args .front .0)) (s .args .first .0) (s .args .list .now) (s .args .len) (s .args .count) (s .pre)
-    (lp .loop .n) (lp .loop .i) (lp .loop .list) (lp .loop .inv) (c .before .before .loop-test .taken))
+remove-below-requires-2 : tie.Need-remove-below-requires-2
+remove-below-requires-2 c κs =
+    let s = c .before .before .before .before .before in
+    let key = dist seqs (s .args .front .0) in
+    omega (
+      arith,
+      c .before .before .remove-below .ensures,
+      s .pre .inside,
+      staying-few key (key (s .args .first .0)) (s .args .list .now) (s .args .len),
+    )
 
-add-i : tie.Need-add-i Inv-loop μ-loop
-add-i c = search needs
+add-end : tie.Need-add-end
+add-end c = let p = places c in record { fits = omega (arith, p .up, p .room, p .inside) }
 
-loop-less : tie.Need-loop-less Inv-loop μ-loop
-loop-less c = search needs
+sub-by : tie.Need-sub-by
+sub-by c = let p = places c in omega (arith, p .up)
 
-loop-again : tie.Need-loop-again Inv-loop μ-loop
-loop-again c =
-    let done = c .before .before in
-    let lp = done .before .before .before .before in
-    let s = lp .before .before in
-    entering-step (dist seqs (s .args .front .0)) (s .args .first .0) (s .args .list .now) (s .args .len) (s .args .count) (s .pre)
-    (lp .loop .n) (lp .loop .i) (lp .loop .list) (lp .loop .inv) (done .insert .result) (done .insert .last .0)
-    (done .before .before .before .loop-test .taken) (rw (done .before .plus .ensures) at (done .insert .ensures))
+move-up-requires : tie.Need-move-up-requires
+move-up-requires c κs = let p = places (c .before) in (p .inside, p .room)
 
-same-length : tie.Need-same-length Inv-loop μ-loop
-same-length c = c .before .loop .inv .same
+write-run-requires : tie.Need-write-run-requires
+write-run-requires c κs = let p = places (c .before .before .before .before .before) in (omega arith, omega (arith, p .up, p .room, p .inside))
 
-returns : tie.Need-returns Inv-loop μ-loop
+add-result : tie.Need-add-result
+add-result c = let p = places (c .before .before .before .before .before .before .before .before) in record { fits = omega (arith, p .room) }
+
+same-length : tie.Need-same-length
+same-length c = search needs
+
+returns : tie.Need-returns
 returns c =
-    let lp = c .before in
-    let s = lp .before .before in
-    entering-all (dist seqs (s .args .front .0)) (s .args .first .0) (s .args .list .now) (s .args .len) (s .args .count) (s .pre)
-    (lp .loop .n) (lp .loop .i) (lp .loop .list) (lp .loop .inv) (c .loop-test .left)
+    let w = c .before .before in
+    let m = w .before .before .before .before in
+    places (m .before .before) .left _ _ (m .move-up .ensures) (w .write-run .ensures)
 
 pub enter-spec : {M : Type 1} → statement M
 enter-spec =
     tie.close
     (tie.spec
-    Inv-loop
-    μ-loop
-    loop-holds
+    remove-below-requires
     plus-requires
-    insert-requires
-    add-i
-    loop-less
-    loop-again
+    remove-below-requires-2
+    add-end
+    sub-by
+    move-up-requires
+    write-run-requires
+    add-result
     same-length
     returns)

@@ -1,33 +1,31 @@
 -- What the code uses of the loss list, on plain lists and for every key.
 --   Fits, Left                  what a function asks of the area, and what it leaves: the list's length and every element
 --   Filled                      what taking the nearest out asks for
---   Placed                      how many entries stand before a key
+--   moved, written              an area with some elements moved up, and with a run written
 --   length-over, take-over, set-over   an area with a list in its first elements: its length, the list, one entry more
---   insert-before, insert-same, insert-behind   how x enters, by the first entry
---   insert-there, insert-here   how it enters by its place: it is there already, or goes in and the entries from there on move one further
---   insert-snoc                 x enters before a last entry with a smaller key
---   insert-longer, entered-longer   no list becomes shorter
 --   staying-none, staying-on, staying-end, staying-few   no entry; the last entry goes, or stays and all before it; no more stay than there were
+--   staying-taken               only those n elements count
+--   Entering, entering          what `enter` leaves, by the two places in the list
 --   descends-on, descends-not, descends-end, keeps-is, keeps-beyond   the check, entry by entry
 -- Assumes nothing.
 use mathlib.Core.Path.{_≡_, refl, sym, ap, _∙_}
 use mathlib.Core.Bool.{Bool, true, false, cond}
 use mathlib.Core.List.{List, [], _∷_, _++_, append-assoc}
-use Prim.Native.Nat.{ℕ, zero, suc, _+_, _-_, _≤_, _<_, zero-le, suc-le-suc}
-use native.Mathlib.Nat.{le-of-suc-le-suc, not-suc-le-zero, le-of-eq, le-refl, le-trans}
+use Prim.Native.Nat.{ℕ, zero, suc, _+_, _-_, _≤_, _<_, zero-le}
+use native.Mathlib.Nat.{not-suc-le-zero, le-of-eq, le-refl}
 use native.Mathlib.Numerals.{add-one, sub-one}
-use native.Mathlib.Decide.{decLe}
 use native.Mathlib.Omega.{arith}
-use lib.Dec.{ltb, eqb}
-use lib.ListN.{length, take, drop, set, getD, length-append, length-drop, take-append-drop, drop-of-length-le}
-use lib.Seq.{slice, take-take, drop-cons, getD-take, set-append-seam, append-snoc, length-take-le, take-append-seam}
-use borrow.Author.Tests.{lt-ltb, le-ltb, le-leb, lt-leb, eq-eqb, ne-eqb}
+use lib.Dec.{ltb}
+use lib.ListN.{length, take, drop, set, getD, length-append, length-drop, drop-of-length-le}
+use lib.Seq.{slice, length-slice, take-take, drop-cons, drop-at, getD-take, set-append-seam, append-snoc, length-take-le, take-append-seam, take-append-le}
+use borrow.Author.Tests.{lt-ltb, le-ltb, le-leb, lt-leb}
 use Rattle.numbers.specs.Modular.{seqs, plus, dist}
-use Rattle.losses.specs.LossList.{over, insert, entered, staying, inOrder, descends, keeps}
+use Rattle.losses.specs.LossList.{over, staying, falling, entered, inOrder, descends, keeps}
 
--- the first n elements of the area e become the list xs
+-- the first n elements of the area e become the list xs, which is no shorter
 pub record Fits (n : ℕ) (xs e : List ℕ) : Type 0 where
   pub inside : n ≤ length e
+  pub grows : n ≤ length xs
   pub room : length xs ≤ length e
 
 -- of the area e, l is left, whose first n elements are the list xs
@@ -40,11 +38,13 @@ pub record Filled (n : ℕ) (e : List ℕ) : Type 0 where
   pub some : 0 < n
   pub inside : n ≤ length e
 
--- of the first n elements of e, p stand before the key k
-pub record Placed (key : ℕ → ℕ) (k : ℕ) (e : List ℕ) (n p : ℕ) : Type 0 where
-  pub within : p ≤ n
-  pub before : (j : ℕ) → j < p → k < key (getD e j 0)
-  pub behind : p < n → key (getD e p 0) ≤ k
+-- of the area l, the elements from i up to n stand by further
+abbrev pub moved : List ℕ → ℕ → ℕ → ℕ → List ℕ
+moved l i n by = take (i + by) l ++ (slice i n l ++ drop (n + by) l)
+
+-- of the area l, the k numbers from x on stand from i up to n
+abbrev pub written : List ℕ → ℕ → ℕ → ℕ → ℕ → List ℕ
+written l i n x k = take i l ++ (falling x k ++ drop n l)
 
 -- ## Areas
 
@@ -57,104 +57,6 @@ set-over xs e y h =
 
 pub take-over : (xs e : List ℕ) → take (length xs) (over xs e) ≡ xs
 take-over xs e = take-append-seam xs (drop (length xs) e)
-
--- ## Entering
-
-module _ (key : ℕ → ℕ) (x y : ℕ) (ys : List ℕ) where
-  pub insert-before : key y < key x → insert key x (y ∷ ys) ≡ x ∷ y ∷ ys
-  unfolding insert
-  insert-before h = rw (lt-ltb (key y) (key x) h)
-
-  pub insert-same : key x ≡ key y → insert key x (y ∷ ys) ≡ y ∷ ys
-  unfolding insert
-  insert-same e = rw (le-ltb (key y) (key x) (omega arith), eq-eqb (key x) (key y) e)
-
-  pub insert-behind : key x < key y → insert key x (y ∷ ys) ≡ y ∷ insert key x ys
-  unfolding insert
-  insert-behind h = rw (le-ltb (key y) (key x) (omega arith), ne-eqb (key x) (key y) (λ e. omega arith))
-
-module _ (key : ℕ → ℕ) (x : ℕ) where
-  here : (ys : List ℕ) (p : ℕ) → p ≤ length ys → ((j : ℕ) → j < p → key x < key (getD ys j 0)) → (p < length ys → key (getD ys p 0) < key x)
-      → insert key x ys ≡ take p ys ++ (x ∷ drop p ys)
-  unfolding insert
-  here [] zero h low high = refl
-  here [] (suc p) h low high = absurd (not-suc-le-zero h)
-  here (y ∷ ys) zero h low high = insert-before key x y ys (high (suc-le-suc zero-le))
-  here (y ∷ ys) (suc p) h low high =
-      insert-behind key x y ys (low 0 (suc-le-suc zero-le))
-      ∙ ap (λ (l : List ℕ). y ∷ l) (here ys p (le-of-suc-le-suc h) (λ j l. low (suc j) (suc-le-suc l)) (λ l. high (suc-le-suc l)))
-
-  there : (ys : List ℕ) (p : ℕ) → p < length ys → ((j : ℕ) → j < p → key x < key (getD ys j 0)) → key (getD ys p 0) ≡ key x → insert key x ys ≡ ys
-  there [] p h low e = absurd (not-suc-le-zero h)
-  there (y ∷ ys) zero h low e = insert-same key x y ys (sym e)
-  there (y ∷ ys) (suc p) h low e =
-      insert-behind key x y ys (low 0 (suc-le-suc zero-le))
-      ∙ ap (λ (l : List ℕ). y ∷ l) (there ys p (le-of-suc-le-suc h) (λ j l. low (suc j) (suc-le-suc l)) e)
-
-  -- the same of the first n elements of an area
-  module _ (e : List ℕ) (n p : ℕ) (inside : n ≤ length e) (P : Placed key (key x) e n p) where
-    long : length (take n e) ≡ n
-    long = length-take-le n e inside
-
-    low : (j : ℕ) → j < p → key x < key (getD (take n e) j 0)
-    low j h = let k : j < n = omega (arith, P .within) in rw (getD-take n e j 0 k) (P .before j h)
-
-    pub insert-there : p < n → key (getD e p 0) ≡ key x → Left n e (insert key x (take n e)) e
-    insert-there h same =
-        let is : insert key x (take n e) ≡ take n e =
-        there (take n e) p (omega (arith, long)) low (ap key (getD-take n e p 0 h) ∙ same) in
-        record { count = rw is (sym long); area = rw (is, long) (sym (take-append-drop n e)) }
-
-    module _ (other : p < n → key (getD e p 0) ≡ key x → ⊥) where
-      new : insert key x (take n e) ≡ take p e ++ (x ∷ slice p n e)
-      new =
-          here (take n e) p (omega (arith, long, P .within)) low
-          (λ h. let k : p < n = omega (arith, long) in rw (getD-take n e p 0 k) (omega (arith, P .behind k, other k)))
-          ∙ rw (take-take p n e (P .within))
-
-      pub insert-longer-here : length (insert key x (take n e)) ≡ n + 1
-      insert-longer-here = rw new (simp (length-append, length-take-le p e (omega (arith, P .within)), length-drop, long) (omega (arith, P .within)))
-
-      pub insert-here : Left (n + 1) (take p e ++ (x ∷ (slice p n e ++ drop (n + 1) e))) (insert key x (take n e)) e
-      insert-here = record {
-        count = sym insert-longer-here;
-        area = rw (insert-longer-here, new) (sym (append-assoc (take p e) (x ∷ slice p n e) (drop (n + 1) e)));
-      }
-
-pub insert-snoc : (key : ℕ → ℕ) (x y : ℕ) (ys : List ℕ) → key y < key x → insert key x (ys ++ (y ∷ [])) ≡ insert key x ys ++ (y ∷ [])
-unfolding insert
-insert-snoc key x y [] h = rw (lt-ltb (key y) (key x) h)
-insert-snoc key x y (z ∷ zs) h = go (ltb (key z) (key x)) (eqb (key x) (key z)) (insert-snoc key x y zs h)
-  where
-    go : (a b : Bool) → insert key x (zs ++ (y ∷ [])) ≡ insert key x zs ++ (y ∷ [])
-        → cond a (x ∷ z ∷ (zs ++ (y ∷ []))) (cond b (z ∷ (zs ++ (y ∷ []))) (z ∷ insert key x (zs ++ (y ∷ []))))
-        ≡ cond a (x ∷ z ∷ zs) (cond b (z ∷ zs) (z ∷ insert key x zs)) ++ (y ∷ [])
-    go true b e = refl
-    go false true e = refl
-    go false false e = ap (λ (l : List ℕ). z ∷ l) e
-
-pub insert-longer : (key : ℕ → ℕ) (x : ℕ) (ys : List ℕ) → length ys ≤ length (insert key x ys)
-unfolding insert
-insert-longer key x [] = zero-le
-insert-longer key x (y ∷ ys) = go (ltb (key y) (key x)) (eqb (key x) (key y)) (insert-longer key x ys)
-  where
-    go : (a b : Bool) → length ys ≤ length (insert key x ys) → suc (length ys) ≤ length (cond a (x ∷ y ∷ ys) (cond b (y ∷ ys) (y ∷ insert key x ys)))
-    go true b h = omega arith
-    go false true h = omega arith
-    go false false h = suc-le-suc h
-
-pub entered-more : (key : ℕ → ℕ) (x k : ℕ) (ys : List ℕ) → entered key x (k + 1) ys ≡ insert key (plus seqs x k) (entered key x k ys)
-unfolding entered
-entered-more key x k ys = ap (λ (n : ℕ). entered key x n ys) (add-one k)
-
-pub entered-longer : (key : ℕ → ℕ) (x j k : ℕ) (ys : List ℕ) → j ≤ k → length (entered key x j ys) ≤ length (entered key x k ys)
-unfolding entered
-entered-longer key x j zero ys h = let none : j ≡ 0 = omega arith in rw none (le-refl (length ys))
-entered-longer key x j (suc k) ys h = go (decLe j k) (entered-longer key x j k ys)
-  where
-    go : Dec (j ≤ k) → (j ≤ k → length (entered key x j ys) ≤ length (entered key x k ys)) → length (entered key x j ys) ≤ length (entered key x (suc k) ys)
-    go (yes l) ih = le-trans (ih l) (insert-longer key (plus seqs x k) (entered key x k ys))
-    go (no l) ih = let end : j ≡ suc k = omega arith in rw end (le-refl (length (entered key x (suc k) ys)))
 
 -- ## Removing
 
@@ -173,6 +75,11 @@ module _ (key : ℕ → ℕ) (k : ℕ) (e : List ℕ) where
   staying-end zero some h = absurd (not-suc-le-zero some)
   staying-end (suc n) some h = let high : k ≤ key (getD e n 0) = rw (sub-one (suc n)) at h in rw (le-ltb _ _ high)
 
+  pub staying-taken : (len n : ℕ) → n ≤ len → staying key k n (take len e) ≡ staying key k n e
+  unfolding staying
+  staying-taken len zero h = refl
+  staying-taken len (suc n) h = rw (getD-take len e n 0 h, staying-taken len n (omega arith))
+
   pub staying-few : (n : ℕ) → staying key k n e ≤ n
   unfolding staying
   staying-few zero = zero-le
@@ -181,6 +88,73 @@ module _ (key : ℕ → ℕ) (k : ℕ) (e : List ℕ) where
       go : (b : Bool) → staying key k n e ≤ n → cond b (staying key k n e) (suc n) ≤ suc n
       go true h = omega arith
       go false h = le-refl (suc n)
+
+-- ## Entering
+
+length-falling : (x k : ℕ) → length (falling x k) ≡ k
+unfolding falling
+length-falling x zero = refl
+length-falling x (suc k) = ap suc (length-falling x k)
+
+-- the k numbers from x on go between the places far and near of the list in the first n elements of e
+pub record Entering (key : ℕ → ℕ) (x k n : ℕ) (e : List ℕ) (near far : ℕ) : Type 0 where
+  pub inside : near ≤ n
+  pub before : far ≤ near
+  pub up : near ≤ far + k
+  pub room : n + (far + k - near) ≤ length e
+  pub left : (l m : List ℕ) → m ≡ moved e near n (far + k - near) → l ≡ written m (far + k - k) (far + k) x k
+      → Left (n + (far + k - near)) l (entered key x k (take n e)) e
+
+-- near is the place of the run's first number, and far that of the one behind its last
+module _ (key : ℕ → ℕ) (x k n : ℕ) (e : List ℕ) (near far : ℕ) (a : near ≡ staying key (key x) n e) (b : far ≡ staying key (key (plus seqs x k)) near e)
+    (F : Fits n (entered key x k (take n e)) e) where
+  near-few : near ≤ n
+  near-few = rw a (staying-few key (key x) e n)
+
+  far-few : far ≤ near
+  far-few = rw b (staying-few key (key (plus seqs x k)) e near)
+
+  entered-is : entered key x k (take n e) ≡ take far e ++ (falling x k ++ slice near n e)
+  unfolding entered
+  entered-is =
+      rw (
+        length-take-le n e (F .inside),
+        staying-taken key (key x) e n n (le-refl n),
+        ← a,
+        staying-taken key (key (plus seqs x k)) e n near near-few,
+        ← b,
+        take-take far n e (omega (arith, near-few, far-few)),
+      )
+
+  entered-length : length (entered key x k (take n e)) ≡ far + k + (n - near)
+  entered-length =
+      let long = length-take-le far e (omega (arith, near-few, far-few, F .inside)) in
+      rw (entered-is, length-append, length-append, long, length-falling x k, length-slice near n e (F .inside)) (omega arith)
+
+  enter-up : near ≤ far + k
+  enter-up = omega (arith, entered-length, F .grows, near-few)
+
+  enter-room : n + (far + k - near) ≤ length e
+  enter-room = omega (arith, entered-length, F .room, enter-up, near-few)
+
+  enter-left : Left (n + (far + k - near)) (written (moved e near n (far + k - near)) (far + k - k) (far + k) x k) (entered key x k (take n e)) e
+  enter-left =
+      let end : near + (far + k - near) ≡ far + k = omega (arith, enter-up) in
+      let long : length (take (far + k) e) ≡ far + k = length-take-le (far + k) e (omega (arith, enter-room, near-few)) in
+      let tail : List ℕ = slice near n e ++ drop (n + (far + k - near)) e in
+      let start : far + k - k ≡ far = omega arith in
+      let before : take far (take (far + k) e ++ tail) ≡ take far e =
+      take-append-le far (take (far + k) e) tail (omega (arith, long)) ∙ take-take far (far + k) e (omega arith) in
+      let all : length (entered key x k (take n e)) ≡ n + (far + k - near) = omega (arith, entered-length, enter-up, near-few) in
+      record {
+        count = sym all;
+        area = rw (end, start, before, drop-at (take (far + k) e) tail (far + k) long, all, entered-is)
+            (sym (append-assoc (take far e) (falling x k ++ slice near n e) (drop (n + (far + k - near)) e)
+            ∙ ap (λ (l : List ℕ). take far e ++ l) (append-assoc (falling x k) (slice near n e) (drop (n + (far + k - near)) e))));
+      }
+
+  pub entering : Entering key x k n e near far
+  entering = record { inside = near-few; before = far-few; up = enter-up; room = enter-room; left = λ l m a b. rw (b, a) enter-left }
 
 -- ## The check
 

@@ -6,22 +6,24 @@
 --   seen front xs         the numbers that xs stands for; stands-seen   and no others
 --   key-wire, wire-plus   the key of a number, and the number k further, on the wire
 --   stands-none, stands-length, stands-first   the empty list; as many entries; the one nearest the front
---   stands-insert, stands-entered, stands-pop  a number enters; a run of numbers does; the first goes
+--   stands-pop                  the first goes
 --   stands-from, stands-below   those below n go, and the front moves to n; how many those are
+--   far-snoc                    one number more at the far end
+--   stands-entered, stands-grows   a run of numbers enters, each once, as in the rules; no list becomes shorter
 -- Assumes nothing.
 pub mod Books
 use mathlib.Core.Path.{_≡_, refl, sym, ap, _∙_}
 use mathlib.Core.Bool.{Bool, true, false, cond}
-use mathlib.Core.List.{List, [], _∷_, _++_}
+use mathlib.Core.List.{List, [], _∷_, _++_, append-nil, append-assoc}
 use Prim.Native.Nat.{ℕ, zero, suc, _+_, _-_, _^_, _≤_, _<_}
 use native.Mathlib.Nat.{mod-add-mod}
 use native.Mathlib.Numerals.{sub-one}
 use native.Mathlib.Decide.{decLt}
 use native.Mathlib.Omega.{arith}
-use lib.Dec.{ltb, eqb}
-use lib.ListN.{length, take, getD, length-append}
-use lib.Seq.{append-snoc, getD-append-seam, getD-take, length-take-le, take-at, take-take}
-use borrow.Author.Tests.{lt-ltb, le-ltb, ltb-true, ltb-false, eqb-true, eqb-false}
+use lib.Dec.{ltb}
+use lib.ListN.{length, take, drop, getD, length-append}
+use lib.Seq.{getD-append-seam, getD-take, length-take-le, take-at, take-take, drop-at, take-length}
+use borrow.Author.Tests.{lt-ltb, le-ltb, ltb-false}
 use Rattle.numbers.specs.Modular.{seqs, plus, dist}
 use Rattle.numbers.specs.Modular.Laws.{plus-is}
 use Rattle.rules.specs.Numbers.{wire}
@@ -29,9 +31,10 @@ use Rattle.rules.specs.Numbers.Laws.{wire-below, distance-wire, distance-is-dis
 use Rattle.rules.specs.Sender as rules
 use Rattle.rules.specs.Losses as losses
 use Rattle.rules.specs.Books.Laws.{Ascends}
-use Rattle.rules.proofs.Lists.{widen, from-ascends, insert-ascends}
-use Rattle.losses.specs.LossList.{insert, entered, staying}
-use Rattle.losses.specs.LossList.Laws.{insert-same, insert-behind, insert-snoc, staying-few}
+use Rattle.rules.proofs.Lists.{widen, from-ascends}
+use Rattle.losses.specs.LossList.{staying, falling, entered}
+use Rattle.losses.specs.LossList.Laws.{staying-few}
+use Rattle.losses.specs.LossList.Runs.{nearer, run, from-all, from-from, nearer-from, entered-run, entered-ascends, entered-longer}
 
 abbrev pub keyOf : ℕ → ℕ → ℕ
 keyOf front = dist seqs (wire front)
@@ -99,77 +102,9 @@ module _ {n : ℕ} {lost : List ℕ} {front : ℕ} where
     ordered = widen lost (omega (arith, S .ordered .0)) (omega arith) (S .ordered .2);
   }
 
-module _ (f : ℕ) where
-  module _ (n : ℕ) (low : f ≤ n) (high : n < f + 2 ^ 31) where
-    -- the order of the keys is that of the numbers
-    key-less : (x : ℕ) → f ≤ x → x < f + 2 ^ 31 → x < n → keyOf f (wire x) < keyOf f (wire n)
-    key-less x p q h = rw (key-wire f x p q, key-wire f n low high) (omega arith)
+-- ## Those below a number go
 
-    key-more : (x : ℕ) → f ≤ x → x < f + 2 ^ 31 → n < x → keyOf f (wire n) < keyOf f (wire x)
-    key-more x p q h = rw (key-wire f x p q, key-wire f n low high) (omega arith)
-
-    -- a number nearer than all of xs enters behind them
-    insert-past : (lo : ℕ) (xs r : List ℕ) → f ≤ lo → n < lo → Ascends lo (f + 2 ^ 31) xs
-        → insert (keyOf f) (wire n) (farFirst xs ++ r) ≡ farFirst xs ++ insert (keyOf f) (wire n) r
-    insert-past lo [] r p q a = refl
-    insert-past lo (x ∷ xs) r p q a =
-        ap (insert (keyOf f) (wire n)) (append-snoc (farFirst xs) (wire x) r)
-        ∙ insert-past (suc x) xs (wire x ∷ r) (omega (arith, a .0)) (omega (arith, a .0)) (a .2)
-        ∙ ap (λ (l : List ℕ). farFirst xs ++ l) (insert-behind (keyOf f) (wire n) (wire x) r (key-more x (omega (arith, a .0)) (a .1) (omega (arith, a .0))))
-        ∙ sym (append-snoc (farFirst xs) (wire x) (insert (keyOf f) (wire n) r))
-
-    insert-wire : (lo : ℕ) (xs : List ℕ) → f ≤ lo → Ascends lo (f + 2 ^ 31) xs → insert (keyOf f) (wire n) (farFirst xs) ≡ farFirst (rules.insert n xs)
-    unfolding insert rules.insert
-    insert-wire lo [] p a = refl
-    insert-wire lo (x ∷ xs) p a = go (ltb n x) refl (eqb n x) refl (insert-wire (suc x) xs (omega (arith, a .0)) (a .2))
-      where
-        from-f : f ≤ x
-        from-f = omega (arith, a .0)
-
-        past : n ≤ x → insert (keyOf f) (wire n) (farFirst xs ++ (wire x ∷ [])) ≡ farFirst xs ++ insert (keyOf f) (wire n) (wire x ∷ [])
-        past h = insert-past (suc x) xs (wire x ∷ []) (omega (arith, from-f)) (omega arith) (a .2)
-
-        go : (b : Bool) → ltb n x ≡ b → (d : Bool) → eqb n x ≡ d → insert (keyOf f) (wire n) (farFirst xs) ≡ farFirst (rules.insert n xs)
-            → insert (keyOf f) (wire n) (farFirst xs ++ (wire x ∷ [])) ≡ farFirst (cond b (n ∷ x ∷ xs) (cond d (x ∷ xs) (x ∷ rules.insert n xs)))
-        go true e d g ih =
-            let h : n < x = ltb-true n x e in
-            past (omega arith)
-            ∙ ap (λ (l : List ℕ). farFirst xs ++ l) (insert-behind (keyOf f) (wire n) (wire x) [] (key-more x from-f (a .1) h))
-            ∙ sym (append-snoc (farFirst xs) (wire x) (wire n ∷ []))
-        go false e true g ih =
-            let h : n ≡ x = eqb-true n x g in
-            past (omega arith) ∙ ap (λ (l : List ℕ). farFirst xs ++ l) (insert-same (keyOf f) (wire n) (wire x) [] (rw h))
-        go false e false g ih =
-            insert-snoc (keyOf f) (wire n) (wire x) (farFirst xs) (key-less x from-f (a .1) (omega (arith, ltb-false n x e, eqb-false n x g)))
-            ∙ ap (λ (l : List ℕ). l ++ (wire x ∷ [])) ih
-
-    pub stands-insert : {lost xs : List ℕ} → Stands lost f xs → Stands (rules.insert n lost) f (insert (keyOf f) (wire n) xs)
-    stands-insert {lost} S = record {
-      is = ap (insert (keyOf f) (wire n)) (S .is) ∙ insert-wire f lost (omega arith) (S .ordered);
-      ordered = insert-ascends f (f + 2 ^ 31) n lost low high (S .ordered);
-    }
-
--- the rules enter a run from its first number on; the last one may as well come last
-pub entered-last : (n k : ℕ) (lost : List ℕ) → losses.entered n (suc k) lost ≡ rules.insert (n + k) (losses.entered n k lost)
-unfolding losses.entered
-entered-last n zero lost = let e : n + 0 ≡ n = omega arith in rw e
-entered-last n (suc k) lost =
-    let e : suc n + k ≡ n + suc k = omega arith in
-    entered-last (suc n) k (rules.insert n lost) ∙ ap (λ (m : ℕ). rules.insert m (losses.entered (suc n) k (rules.insert n lost))) e
-
-pub stands-entered : (f n k : ℕ) {lost xs : List ℕ} → f ≤ n → n + k ≤ f + 2 ^ 31 → Stands lost f xs
-    → Stands (losses.entered n k lost) f (entered (keyOf f) (wire n) k xs)
-unfolding losses.entered entered
-stands-entered f n zero h r S = S
-stands-entered f n (suc k) {lost} {xs} h r S =
-    rw (entered-last n k lost, wire-plus n k) (stands-insert f (n + k) (omega arith) (omega arith) (stands-entered f n k h (omega arith) S))
-
-module _ (f n : ℕ) (low : f ≤ n) (high : n < f + 2 ^ 31) where
-  from-all : (lo hi : ℕ) (xs : List ℕ) → n ≤ lo → Ascends lo hi xs → rules.from n xs ≡ xs
-  unfolding rules.from
-  from-all lo hi [] h a = refl
-  from-all lo hi (x ∷ xs) h a = rw (le-ltb x n (omega (arith, a .0))) (ap (λ (l : List ℕ). x ∷ l) (from-all (suc x) hi xs (omega (arith, a .0)) (a .2)))
-
+module _ (f n : ℕ) (low : f ≤ n) where
   -- where the last entry stays, all do
   from-wire : (lo : ℕ) (lost : List ℕ) (len : ℕ) (e : List ℕ) → f ≤ lo → Ascends lo (f + 2 ^ 31) lost → len ≤ length e → take len e ≡ farFirst lost
       → take (staying (keyOf f) (n - f) len e) e ≡ farFirst (rules.from n lost)
@@ -185,7 +120,7 @@ module _ (f n : ℕ) (low : f ≤ n) (high : n < f + 2 ^ 31) where
       go : (b : Bool) → ltb x n ≡ b → take (staying (keyOf f) (n - f) m e) e ≡ farFirst (rules.from n xs)
           → take (cond b (staying (keyOf f) (n - f) m e) (suc m)) e ≡ farFirst (cond b (rules.from n xs) (x ∷ rules.from n xs))
       go true t ih = ih
-      go false t ih = is ∙ ap (λ (l : List ℕ). farFirst l ++ (wire x ∷ [])) (sym (from-all (suc x) (f + 2 ^ 31) xs (let q = ltb-false x n t in omega arith) (a .2)))
+      go false t ih = is ∙ ap (λ (l : List ℕ). farFirst l ++ (wire x ∷ [])) (sym (from-all n (suc x) (f + 2 ^ 31) xs (let q = ltb-false x n t in omega arith) (a .2)))
 
   from-below : (xs : List ℕ) → length (rules.from n xs) + rules.below n xs ≡ length xs
   unfolding rules.from rules.below
@@ -197,7 +132,7 @@ module _ (f n : ℕ) (low : f ≤ n) (high : n < f + 2 ^ 31) where
       go true e = omega arith
       go false e = omega arith
 
-  module _ {lost : List ℕ} (len : ℕ) (e : List ℕ) (h : len ≤ length e) (S : Stands lost f (take len e)) where
+  module _ (high : n < f + 2 ^ 31) {lost : List ℕ} (len : ℕ) (e : List ℕ) (h : len ≤ length e) (S : Stands lost f (take len e)) where
     pub stands-from : Stands (rules.from n lost) n (take (staying (keyOf f) (keyOf f (wire n)) len e) e)
     stands-from = record {
       is = rw (key-wire f n low high) (from-wire f lost len e (omega arith) (S .ordered) h (S .is));
@@ -209,6 +144,51 @@ module _ (f n : ℕ) (low : f ≤ n) (high : n < f + 2 ^ 31) where
         let stay : ℕ = staying (keyOf f) (keyOf f (wire n)) len e in
         let few : stay ≤ len = staying-few (keyOf f) (keyOf f (wire n)) e len in
         omega (arith, few, stands-length stands-from, length-take-le stay e (omega arith), stands-length S, length-take-le len e h, from-below lost)
+
+-- ## A run enters
+
+-- one number more at the far end, and a list of them
+pub far-snoc : (n : ℕ) (lost : List ℕ) → farFirst (lost ++ (n ∷ [])) ≡ wire n ∷ farFirst lost
+far-snoc n [] = refl
+far-snoc n (x ∷ xs) = ap (λ (l : List ℕ). l ++ (wire x ∷ [])) (far-snoc n xs)
+
+far-append : (xs ys : List ℕ) → farFirst (xs ++ ys) ≡ farFirst ys ++ farFirst xs
+far-append [] ys = sym (append-nil (farFirst ys))
+far-append (x ∷ xs) ys = ap (λ (l : List ℕ). l ++ (wire x ∷ [])) (far-append xs ys) ∙ append-assoc (farFirst ys) (farFirst xs) (wire x ∷ [])
+
+run-far : (n k : ℕ) (lost : List ℕ) → farFirst (run n k lost) ≡ falling (wire n) k ++ farFirst (nearer n lost)
+unfolding falling run
+run-far n zero lost = refl
+run-far n (suc k) lost = rw (far-snoc (n + k) (run n k lost), wire-plus n k) (ap (λ (l : List ℕ). wire (n + k) ∷ l) (run-far n k lost))
+
+entered-wire : (f n k : ℕ) (lost xs : List ℕ) → f ≤ n → n + k < f + 2 ^ 31 → Stands lost f xs → entered (keyOf f) (wire n) k xs ≡ farFirst (losses.entered n k lost)
+unfolding entered
+entered-wire f n k lost xs h r S =
+    let q : ℕ = staying (keyOf f) (n - f) (length xs) xs in
+    let few : q ≤ length xs = staying-few (keyOf f) (n - f) xs (length xs) in
+    let beyond : take q xs ≡ farFirst (rules.from n lost) =
+    from-wire f n h f lost (length xs) xs (omega arith) (S .ordered) (omega arith) (take-length xs ∙ S .is) in
+    let farther : take (staying (keyOf f) (n + k - f) q xs) xs ≡ farFirst (rules.from (n + k) lost) =
+    from-wire f (n + k) (omega arith) f (rules.from n lost) q xs (omega arith)
+    (widen (rules.from n lost) (omega arith) (omega arith) (from-ascends f (f + 2 ^ 31) n lost (S .ordered))) few beyond
+    ∙ ap farFirst (from-from n k lost) in
+    let whole : xs ≡ take q xs ++ farFirst (nearer n lost) =
+    S .is ∙ ap farFirst (nearer-from f (f + 2 ^ 31) n lost (S .ordered)) ∙ far-append (nearer n lost) (rules.from n lost)
+    ∙ ap (λ (l : List ℕ). l ++ farFirst (nearer n lost)) (sym beyond) in
+    let near : drop q xs ≡ farFirst (nearer n lost) =
+    ap (drop q) whole ∙ drop-at (take q xs) (farFirst (nearer n lost)) q (length-take-le q xs few) in
+    rw (wire-plus n k, key-wire f n h (omega arith), key-wire f (n + k) (omega arith) r, farther, near, ← run-far n k lost)
+    (sym (ap farFirst (entered-run f (f + 2 ^ 31) n k lost h (S .ordered)) ∙ far-append (run n k lost) (rules.from (n + k) lost)))
+
+pub stands-entered : (f n k : ℕ) {lost xs : List ℕ} → f ≤ n → n + k < f + 2 ^ 31 → Stands lost f xs
+    → Stands (losses.entered n k lost) f (entered (keyOf f) (wire n) k xs)
+stands-entered f n k {lost} {xs} h r S = record {
+  is = entered-wire f n k lost xs h r S;
+  ordered = entered-ascends f (f + 2 ^ 31) n k lost h (omega arith) (S .ordered);
+}
+
+pub stands-grows : (f n k : ℕ) {lost xs : List ℕ} → f ≤ n → n + k < f + 2 ^ 31 → Stands lost f xs → length xs ≤ length (entered (keyOf f) (wire n) k xs)
+stands-grows f n k {lost} h r S = omega (arith, entered-longer n k lost, stands-length S, stands-length (stands-entered f n k h r S))
 
 -- ## What an area's list stands for
 

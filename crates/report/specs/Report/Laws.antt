@@ -1,18 +1,18 @@
 -- What the code uses of a loss report on the books.
---   Reportable, Readable        what the code asks for
 --   enteredTo f ws k xs         the first k runs of the words ws enter the list xs
+--   Growing f ws k xs           none of them makes it shorter
+--   Reportable, Readable, Enters   what the code asks for; what a report has
 --   enter-none, added-fits, added-left   one run, as the code enters it
---   entered-longest, entered-runs   no list becomes shorter; the words of runs enter what the runs enter
+--   entered-longest             then none of these lists is longer than the last
+--   growing-first, entered-runs it is so of the first run and of those behind it; the words of runs enter what the runs enter
 --   readable, add-done          how the parts of the code make the whole
 -- Assumes nothing.
 use mathlib.Core.Path.{_≡_, refl, sym, ap, _∙_}
-use mathlib.Core.Bool.{Bool, true, false, cond}
 use mathlib.Core.List.{List, [], _∷_, _++_}
-use Prim.Native.Nat.{ℕ, zero, suc, _+_, _-_, _*_, _≤_}
+use Prim.Native.Nat.{ℕ, zero, suc, _+_, _-_, _*_, _≤_, _<_}
 use native.Mathlib.Nat.{le-refl, le-trans}
 use native.Mathlib.Decide.{decLe}
 use native.Mathlib.Omega.{arith}
-use lib.Dec.{eqb}
 use lib.ListN.{length, take, drop, getD, length-drop, length-append, take-append-drop}
 use lib.Seq.{getD-drop, length-take-le}
 use borrow.Author.Tests.{eq-eqb, ne-eqb}
@@ -21,7 +21,7 @@ use Rattle.rules.specs.Settings.{Settings}
 use Rattle.rules.specs.Losses.{LossRun, endOf}
 use Rattle.losses.specs.LossList.{over, entered}
 use Rattle.losses.specs.LossList.Laws as list
-use Rattle.losses.specs.LossList.Laws.{Fits, entered-longer}
+use Rattle.losses.specs.LossList.Laws.{Fits}
 use Rattle.words.specs.Runs.{codeOf, wordsFor}
 use Rattle.words.specs.Runs.Lent as lent
 use Rattle.words.specs.Runs.Lent.{Holds, words-length}
@@ -42,20 +42,24 @@ unfoldable pub enteredTo : ℕ → List ℕ → ℕ → List ℕ → List ℕ
 enteredTo f ws zero xs = xs
 enteredTo f ws (suc k) xs = enterRun f (getD ws (3 * k) 0) (getD ws (3 * k + 1) 0) (getD ws (3 * k + 2) 0) (enteredTo f ws k xs)
 
+-- no run of the first k makes the list shorter
+abbrev pub Growing : ℕ → List ℕ → ℕ → List ℕ → Type 0
+Growing f ws k xs = (i : ℕ) → i < k → length (enteredTo f ws i xs) ≤ length (enteredTo f ws (suc i) xs)
+
 -- the words hold k runs, and the area has room for what enters
 pub record Readable (ws : List ℕ) (k f len : ℕ) (lost : List ℕ) : Type 0 where
   pub whole : 3 * k ≤ length ws
-  pub fits : Fits len (enteredTo f ws k (take len lost)) lost
+  pub inside : len ≤ length lost
+  pub grows : Growing f ws k (take len lost)
+  pub room : length (enteredTo f ws k (take len lost)) ≤ length lost
+
+-- the same of a report, whatever stands behind its runs
+pub record Enters (b : SendBuffer) (ws lost : List ℕ) : Type 0 where
+  pub inside : b .lost ≤ length lost
+  pub grows : (t : List ℕ) → Growing (b .front .0) (wordsFor (runsFor b ws) ++ t) (length (runsFor b ws)) (take (b .lost) lost)
+  pub room : length (lostAfter b ws lost) ≤ length lost
 
 -- ## One run
-
-enter-longer : (f kind first end : ℕ) (xs : List ℕ) → length xs ≤ length (enterRun f kind first end xs)
-unfolding enterRun entered
-enter-longer f kind first end xs = go (eqb kind 1)
-  where
-    go : (t : Bool) → length xs ≤ length (cond t (entered (dist seqs f) first (dist seqs first end) xs) xs)
-    go true = entered-longer (dist seqs f) first 0 (dist seqs first end) xs (omega arith)
-    go false = le-refl (length xs)
 
 module _ (f kind first end : ℕ) (xs : List ℕ) where
   enter-added : kind ≡ 1 → enterRun f kind first end xs ≡ entered (dist seqs f) first (dist seqs first end) xs
@@ -87,13 +91,12 @@ enter-none f kind first end len e h inside =
 
 -- ## One run after the other
 
-pub entered-longest : (f : ℕ) (ws : List ℕ) (j k : ℕ) (xs : List ℕ) → j ≤ k → length (enteredTo f ws j xs) ≤ length (enteredTo f ws k xs)
-unfolding enteredTo
-entered-longest f ws j zero xs h = let none : j ≡ 0 = omega arith in rw none (le-refl (length xs))
-entered-longest f ws j (suc k) xs h = go (decLe j k) (entered-longest f ws j k xs)
+pub entered-longest : (f : ℕ) (ws : List ℕ) (j k : ℕ) (xs : List ℕ) → Growing f ws k xs → j ≤ k → length (enteredTo f ws j xs) ≤ length (enteredTo f ws k xs)
+entered-longest f ws j zero xs g h = let none : j ≡ 0 = omega arith in rw none (le-refl (length (enteredTo f ws 0 xs)))
+entered-longest f ws j (suc k) xs g h = go (decLe j k) (entered-longest f ws j k xs (λ i l. g i (omega arith)))
   where
     go : Dec (j ≤ k) → (j ≤ k → length (enteredTo f ws j xs) ≤ length (enteredTo f ws k xs)) → length (enteredTo f ws j xs) ≤ length (enteredTo f ws (suc k) xs)
-    go (yes l) ih = le-trans (ih l) (enter-longer f _ _ _ (enteredTo f ws k xs))
+    go (yes l) ih = le-trans (ih l) (g k (omega arith))
     go (no l) ih = let end : j ≡ suc k = omega arith in rw end (le-refl (length (enteredTo f ws (suc k) xs)))
 
 -- the first run of the words, and then those behind it
@@ -108,6 +111,18 @@ entered-first f ws (suc k) xs =
     rw (getD-drop 3 ws (3 * k) 0, getD-drop 3 ws (3 * k + 1) 0, getD-drop 3 ws (3 * k + 2) 0, ← a, ← b, ← d)
     (ap (enterRun f (getD ws (3 * suc k) 0) (getD ws (3 * suc k + 1) 0) (getD ws (3 * suc k + 2) 0)) (entered-first f ws k xs))
 
+module _ (f : ℕ) (ws : List ℕ) (k : ℕ) (xs : List ℕ) where
+  abbrev one : List ℕ
+  one = enterRun f (getD ws 0 0) (getD ws 1 0) (getD ws 2 0) xs
+
+  grows-once : length xs ≤ length one → length (enteredTo f ws 0 xs) ≤ length (enteredTo f ws 1 xs)
+  unfolding enteredTo
+  grows-once h = h
+
+  pub growing-first : length xs ≤ length one → Growing f (drop 3 ws) k one → Growing f ws (suc k) xs
+  growing-first h g zero l = grows-once h
+  growing-first h g (suc i) l = rw (entered-first f ws i xs, entered-first f ws (suc i) xs) (g i (omega arith))
+
 pub entered-runs : (f : ℕ) (rs : List LossRun) (t xs : List ℕ) → enteredTo f (wordsFor rs ++ t) (length rs) xs ≡ enterRuns f rs xs
 unfolding enteredTo enterRuns wordsFor
 entered-runs f [] t xs = refl
@@ -119,10 +134,12 @@ module _ (b : SendBuffer) (ws lost out : List ℕ) (n : ℕ) (l : List ℕ) (H :
   entered-is : enteredTo (b .front .0) l n (take (b .lost) lost) ≡ lostAfter b ws lost
   entered-is = rw (H .count, H .area) (entered-runs (b .front .0) (runsFor b ws) (drop (length (wordsFor (runsFor b ws))) out) (take (b .lost) lost))
 
-  pub readable : Fits (b .lost) (lostAfter b ws lost) lost → Readable l n (b .front .0) (b .lost) lost
-  readable F = record {
+  pub readable : Enters b ws lost → Readable l n (b .front .0) (b .lost) lost
+  readable E = record {
     whole = rw (H .count, H .area) (simp (length-append, length-drop) (omega (arith, words-length (runsFor b ws))));
-    fits = rw entered-is F;
+    inside = E .inside;
+    grows = rw (H .count, H .area) (E .grows (drop (length (wordsFor (runsFor b ws))) out));
+    room = rw entered-is (E .room);
   }
 
   pub add-done : (m : ℕ) (after : List ℕ) (r : SendBuffer) → list.Left m after (enteredTo (b .front .0) l n (take (b .lost) lost)) lost → r ≡ withLost b m

@@ -7,8 +7,9 @@
 -- Assumes nothing.
 use mathlib.Core.Path.{_≡_, refl, sym, ap, _∙_}
 use mathlib.Core.Bool.{Bool, true, false, cond, and-eq-true-iff}
-use mathlib.Core.List.{List, [], _∷_}
+use mathlib.Core.List.{List, [], _∷_, _++_}
 use Prim.Native.Nat.{ℕ, _+_, _-_, _*_, _^_, _≤_, _<_}
+use native.Mathlib.Nat.{not-suc-le-zero}
 use native.Mathlib.Omega.{arith}
 use lib.Dec.{eqb}
 use lib.ListN.{length, getD}
@@ -26,11 +27,11 @@ use Rattle.rules.specs.Losses as rules
 use Rattle.rules.specs.Losses.{Item, Words, items, bad, LossKind, Added, Ignored, Dropped, LossRun, wordsOf, runsOf, joined, glue, meets, sameKind, endOf, enterBy, enterAll}
 use Rattle.rules.proofs.Entering as entering
 use Rattle.losses.specs.LossList.{over}
-use Rattle.losses.specs.LossList.Laws.{Fits, take-over, length-over}
+use Rattle.losses.specs.LossList.Laws.{take-over, length-over}
 use Rattle.losses.specs.LossList.Stands as losses
-use Rattle.losses.specs.LossList.Stands.{stands-length, stands-entered}
+use Rattle.losses.specs.LossList.Stands.{stands-length, stands-entered, stands-grows}
 use Rattle.losses.specs.LossList.Stands.Books.{ascends-few}
-use Rattle.words.specs.Runs.{codeOf, merged, itemsOf}
+use Rattle.words.specs.Runs.{codeOf, wordsFor, merged, itemsOf}
 use Rattle.words.specs.Runs.Laws.{words-numbers, answer-is, sameKind-true}
 use Rattle.words.specs.Runs.Lent.{Holds}
 use Rattle.words.specs.Runs.Entering.{Inside, runs-inside, enterAll-joined, count-is}
@@ -38,6 +39,7 @@ use Rattle.buffer.specs.State.{State, state}
 use Rattle.buffer.specs.State.Stands.{Stands}
 use Rattle.buffer.specs.State.Facts.{stands-facts}
 use Rattle.report.specs.Report.{withLost, runsFor, enterRun, enterRuns, lostAfter, Left, add}
+use Rattle.report.specs.Report.Laws.{Growing, Enters, growing-first}
 
 -- ## What the runs stand for
 
@@ -86,6 +88,27 @@ module _ (s : Sender) (near : sentOf s < 2 ^ 31) where
   run-stands Ignored first count h i S = S
   run-stands Dropped first count h i S = S
 
+  -- the list becomes no shorter
+  run-grows : (k : LossKind) (first count : ℕ) → first < 2 ^ 31 → (k ≡ Added → distance (wire (s .front)) first + count ≤ sentOf s)
+      → {lost xs : List ℕ} → losses.Stands lost (s .front) xs → length xs ≤ length (enterRun (wire (s .front)) (codeOf k) first (wire (first + count)) xs)
+  unfolding enterRun
+  run-grows Added first count h i {lost} {xs} S =
+      let d : dist seqs first (wire (first + count)) ≡ count = count-is (record { kind = Added; first = first; count = count }) (omega (arith, i refl)) in
+      let at : wire (s .front + distance (wire (s .front)) first) ≡ first = wire-distance (s .front) first h in
+      rw d
+      (rw at at
+      (stands-grows (s .front) (s .front + distance (wire (s .front)) first) count (omega arith) (omega (arith, i refl)) S))
+  run-grows Ignored first count h i S = omega arith
+  run-grows Dropped first count h i S = omega arith
+
+  runs-grow : (rs : List LossRun) → Inside s rs → {lost xs : List ℕ} → losses.Stands lost (s .front) xs
+      → (t : List ℕ) → Growing (wire (s .front)) (wordsFor rs ++ t) (length rs) xs
+  unfolding wordsFor
+  runs-grow [] a S t = λ i h. absurd (not-suc-le-zero h)
+  runs-grow (r ∷ rs) a {lost} {xs} S t =
+      growing-first (wire (s .front)) (codeOf (r .kind) ∷ r .first ∷ endOf r ∷ (wordsFor rs ++ t)) (length rs) xs
+      (run-grows (r .kind) (r .first) (r .count) (a .0) (a .1) S) (runs-grow rs (a .2) (run-stands (r .kind) (r .first) (r .count) (a .0) (a .1) S) t)
+
   pub runs-stand : (rs : List LossRun) → Inside s rs → {lost xs : List ℕ} → losses.Stands lost (s .front) xs
       → losses.Stands (enterAll s rs lost) (s .front) (enterRuns (wire (s .front)) rs xs)
   unfolding enterAll enterRuns
@@ -115,12 +138,16 @@ module _ {c : Settings} {st : State} {s : Sender} (S : Stands c st s) (K : Kept 
       rw (runs-are, S .front, ← enterAll-joined s near (runsOf s reported) (s .lost) inside)
       (runs-stand s near (joined (runsOf s reported)) (joined-inside s near (runsOf s reported) inside) (S .lost))
 
-  pub lost-fits : Fits (st .books .lost) (lostAfter (st .books) ws (st .lost)) (st .lost)
+  pub lost-fits : Enters (st .books) ws (st .lost)
   lost-fits =
       let f = stands-facts S K in
       let ascends = entering.enterAll-ascends s (runsOf s reported) (s .lost) (K .good .low) (entering.runs-inside s reported) (K .good .lost) in
       let few = ascends-few (s .front) (s .next) (enterAll s (runsOf s reported) (s .lost)) ascends in
-      record { inside = f .inside; room = omega (arith, stands-length lost-stands, few, sent-is, f .sent, f .placed .len, f .room) }
+      record {
+        inside = f .inside;
+        grows = rw (runs-are, S .front) (runs-grow s near (joined (runsOf s reported)) (joined-inside s near (runsOf s reported) inside) (S .lost));
+        room = omega (arith, stands-length lost-stands, few, sent-is, f .sent, f .placed .len, f .room);
+      }
 
   pub stands-reported :
       Stands c (state (withLost (st .books) (length (lostAfter (st .books) ws (st .lost)))) (st .ring) (over (lostAfter (st .books) ws (st .lost)) (st .lost)))

@@ -1,30 +1,30 @@
 -- The book rules of the loss list, in the area and in the rules; and the room that sent numbers have.
 --   stands-keeps, keeps-stands      the area's check is that of the rules, both ways: a list that keeps them stands for the numbers `seen`
 --   keeps-ascends                   and those ascend, as the rules ask
---   entered-ascends, ascends-few    numbers between two bounds enter a list between them; such a list is no longer than they are apart
+--   ascends-few                     a list between two bounds is no longer than they are apart
 --   enter-fits                      sent numbers have room in an area of as many elements
 -- Assumes nothing.
 use mathlib.Core.Path.{_≡_, refl, sym, ap, _∙_}
 use mathlib.Core.Bool.{true, and-eq-true-iff}
 use mathlib.Core.List.{List, [], _∷_, _++_, append-nil}
-use Prim.Native.Nat.{ℕ, zero, suc, _+_, _-_, _^_, _≤_, _<_, zero-le}
+use Prim.Native.Nat.{ℕ, suc, _+_, _-_, _^_, _≤_, _<_, zero-le}
 use native.Mathlib.Omega.{arith}
 use lib.Dec.{ltb}
 use lib.ListN.{length, take}
-use lib.Seq.{append-snoc}
+use lib.Seq.{append-snoc, length-take-le}
 use borrow.Author.Tests.{lt-ltb, le-leb, ltb-true}
 use Rattle.numbers.specs.Modular.{seqs}
 use Rattle.numbers.specs.Modular.Laws.{plus-dist}
 use Rattle.rules.specs.Numbers.{wire}
 use Rattle.rules.specs.Numbers.Laws.{wire-below}
-use Rattle.rules.specs.Sender as rules
 use Rattle.rules.specs.Losses as losses
 use Rattle.rules.specs.Books as books
 use Rattle.rules.specs.Books.Laws.{Ascends}
-use Rattle.rules.proofs.Lists.{widen, insert-ascends}
+use Rattle.rules.proofs.Lists.{widen}
 use Rattle.losses.specs.LossList.{entered, inOrder, descends}
 use Rattle.losses.specs.LossList.Laws.{Fits}
-use Rattle.losses.specs.LossList.Stands.{keyOf, farFirst, Stands, seen, key-wire, wire-plus, stands-length, stands-entered}
+use Rattle.losses.specs.LossList.Runs.{ascends-snoc, entered-ascends}
+use Rattle.losses.specs.LossList.Stands.{keyOf, farFirst, Stands, seen, key-wire, wire-plus, stands-length, far-snoc, stands-entered, stands-grows}
 
 -- ## The book rules
 
@@ -48,15 +48,6 @@ pub stands-keeps : (hi : ℕ) {lost : List ℕ} {f : ℕ} {xs : List ℕ} → hi
 unfolding descends
 stands-keeps hi {lost} {f} t S a =
     ap (descends (keyOf f) hi) (S .is ∙ sym (append-nil (farFirst lost))) ∙ descends-past f f hi lost [] (omega arith) (omega arith) t a (λ b h. refl)
-
--- one number more at the far end
-far-snoc : (n : ℕ) (lost : List ℕ) → farFirst (lost ++ (n ∷ [])) ≡ wire n ∷ farFirst lost
-far-snoc n [] = refl
-far-snoc n (x ∷ xs) = ap (λ (l : List ℕ). l ++ (wire x ∷ [])) (far-snoc n xs)
-
-ascends-snoc : (lo hi n : ℕ) (xs : List ℕ) → lo ≤ n → n < hi → Ascends lo n xs → Ascends lo hi (xs ++ (n ∷ []))
-ascends-snoc lo hi n [] p q a = (p, q, tt)
-ascends-snoc lo hi n (x ∷ xs) p q a = (a .0, omega (arith, a .1), ascends-snoc (suc x) hi n xs (a .1) q (a .2))
 
 record Seen (f hi : ℕ) (xs : List ℕ) : Type 0 where
   pub is : xs ≡ farFirst (seen f xs)
@@ -85,19 +76,15 @@ module _ (f hi : ℕ) (xs : List ℕ) (e : descends (keyOf f) hi xs ≡ true) wh
 
 -- ## Room
 
-pub entered-ascends : (lo hi n k : ℕ) (xs : List ℕ) → lo ≤ n → n + k ≤ hi → Ascends lo hi xs → Ascends lo hi (losses.entered n k xs)
-unfolding losses.entered
-entered-ascends lo hi n zero xs p q a = a
-entered-ascends lo hi n (suc k) xs p q a = entered-ascends lo hi (suc n) k (rules.insert n xs) (omega arith) (omega arith) (insert-ascends lo hi n xs p (omega arith) a)
-
 pub ascends-few : (lo hi : ℕ) (xs : List ℕ) → Ascends lo hi xs → length xs ≤ hi - lo
 ascends-few lo hi [] a = zero-le
 ascends-few lo hi (x ∷ xs) a = omega (arith, ascends-few (suc x) hi xs (a .2))
 
-pub enter-fits : (f n k sent len : ℕ) {lost : List ℕ} (e : List ℕ) → sent ≤ 2 ^ 31 → sent ≤ length e → len ≤ length e → f ≤ n → n + k ≤ f + sent
+pub enter-fits : (f n k sent len : ℕ) {lost : List ℕ} (e : List ℕ) → sent < 2 ^ 31 → sent ≤ length e → len ≤ length e → f ≤ n → n + k ≤ f + sent
     → Ascends f (f + sent) lost → Stands lost f (take len e) → Fits len (entered (keyOf f) (wire n) k (take len e)) e
 enter-fits f n k sent len {lost} e few room inside low high a S = record {
   inside = inside;
+  grows = let g = stands-grows f n k low (omega arith) S in omega (arith, g, length-take-le len e inside);
   room = omega (
     arith,
     stands-length (stands-entered f n k low (omega arith) S),
