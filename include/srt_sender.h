@@ -640,7 +640,8 @@ static inline int srt_timers_new(struct srt_timers *t, uint64_t now, uint64_t st
 
 /* |*wake| = when the host must wake at the latest, never before |now|. |packets|: whether there are packets to send,
  * as srt_sender_reports says; |message|: when the next message will be brought, NULL where that is unknown; |unacked|:
- * how many packets are unacknowledged. Ask again after every other call. On waking check SND, ACK, NAK and EXP, also
+ * how many packets wait for an ACK of this host's: it brings in the ACK timer, a receiver's, and a host that only sends
+ * gives 0. Ask again after every other call. On waking check SND, ACK, NAK and EXP, also
  * those that the host has no use for: a timer that expired and is not checked keeps the wake-up at |now|. It does not
  * see when a packet is due to be sent again: NAK and EXP wake the host for that.
  * Returns 0, or:
