@@ -3,6 +3,7 @@
 --   Stood c w s          the world w stands for the sender s of the rules, which keeps the book rules
 --   one-answer, one-world, one-store   a call in such a world answers as the rules do, and leaves such a world
 --   always, stores, answers   after any calls: the books, the store, and the answer of the next one
+--   reports-told         the reports are those of the rules' sender
 --   books-stay           the books are kept: no call answers 3
 --   demand-three         demand 3, whole, of the sender that the books stand for
 -- Assumes nothing.
@@ -18,6 +19,7 @@ use Rattle.rules.specs.Sender.{Sender, fresh}
 use Rattle.rules.specs.Books.Laws.{Kept, kept-facts}
 use Rattle.rules.specs.Calls as rules
 use Rattle.rules.specs.Refusals.{newVerdict}
+use Rattle.rules.specs.Reports.{isFlushed, hasPacketsToSend, bufferedPackets, bufferedBytes, bufferedTime}
 use Rattle.rules.specs.Promises.{Given, AllGiven, DemandThree}
 use Rattle.rules.specs.Message.{stored}
 use Rattle.rules.proofs.CallsKept.{answer-kept}
@@ -33,7 +35,10 @@ use Rattle.sender.specs.Books.Stands.{StandsFor, kept-is}
 use Rattle.sender.specs.Calls.Stands as Message
 use Rattle.sender.specs.Acks.Stands as Ack
 use Rattle.answers.specs.Naks.Stands as Nak
+use Rattle.answers.specs.declared.Told.the-variants.{Known}
 use Rattle.answers.specs.Payload.Stands as Payload
+use Rattle.answers.specs.Reports.{reports}
+use Rattle.answers.specs.Reports.Stands.{reports-are}
 use Rattle.sender_run.specs.Runs.Stands as Run
 use Rattle.ack.specs.declared.FullAck.{FullAck}
 use Rattle.ack.specs.declared.FullAck.the-variants as full
@@ -210,6 +215,18 @@ module _ (b : code.Settings) (mode : LiveBandwidthMode) (ring lost store : List 
   answers ks f k g =
       let S = always ks f in
       subst (λ (d : Settings). Same (senderOf ks) k (worlds ks start) (rules.answer d (ruleOf k) (senderOf ks))) (S .settings) (one-answer S k g)
+
+  -- and so are the reports
+  pub reports-told : (ks : List Call) → AllFit ks → reports (worlds ks start .books) ≡ Known (record {
+    «is_flushed» = isFlushed (senderOf ks);
+    «has_packets_to_send» = hasPacketsToSend (senderOf ks);
+    len = bufferedPackets (senderOf ks);
+    «len_bytes» = bufferedBytes (senderOf ks);
+    duration = bufferedTime (senderOf ks);
+  })
+  reports-told ks f =
+      let S = always ks f in
+      reports-are (worlds ks start .books) (senderOf ks) (S .stands) (subst (λ (d : Settings). Kept d (senderOf ks)) (sym (S .settings)) (S .kept))
 
   -- the books are kept, so the next call does not answer 3
   pub books-stay : (ks : List Call) → AllFit ks → kept (worlds ks start .books) ≡ true

@@ -4,6 +4,7 @@
 --   entered-is, all-entered   they leave what the public calls leave (`promises:Promises`), so `promises:Promises/Always` holds of them
 --   new-started        what the entry of a new sender gives, in lent areas, is the fresh sender of `promises`
 --   host-always        so after any entries from there the host's numbers and areas stand for the rules' sender after the same calls
+--   host-answers       and the next call answers as the rules do, with every word of its lent list
 --   refused-enters     "A refusal changes nothing lent or kept": every number that the host keeps, and every lent element; 11 apart
 -- Assumes nothing.
 use mathlib.Core.Path.{_≡_, refl, sym, ap, _∙_, subst}
@@ -37,7 +38,7 @@ use Rattle.sender.specs.Calls.{made}
 use Rattle.sender.specs.Calls.Stands as Message
 use Rattle.sender.specs.Acks as Acks
 use Rattle.sender.specs.Acks.Stands as Ack
-use Rattle.answers.specs.declared.Reported as answers
+use Rattle.answers.specs.declared.Reported as reports
 use Rattle.answers.specs.declared.Reported.the-variants as reported
 use Rattle.answers.specs.Naks as Naks
 use Rattle.answers.specs.Naks.Stands as Nak
@@ -51,8 +52,8 @@ use Rattle.flat.specs.Senders.Laws.{read-back}
 use Rattle.flat.specs.Replies.{refusedOf, newOf, messageOf, ackLeft, answerBy, ackOf, nakOf, runOf}
 use Rattle.flat.specs.Replies.Laws.{message-after, nak-after, run-after}
 use Rattle.promises.specs.Promises as calls
-use Rattle.promises.specs.Promises.{World, Call, ruleOf, AllFit, after, worlds, started}
-use Rattle.promises.specs.Promises.Always.{Stood, always}
+use Rattle.promises.specs.Promises.{World, Call, ruleOf, Fits, AllFit, after, worlds, Same, started}
+use Rattle.promises.specs.Promises.Always.{Stood, always, answers}
 use Rattle.promises.specs.Promises.Refusals.{verdictIn, refused-stays}
 use Rattle.srt_sender.specs.Entries.{booksOf, message, ack, nak, run}
 
@@ -145,6 +146,15 @@ module _ (c : Settings) (mode : LiveBandwidthMode) (ring lost store : List ℕ) 
         subst (λ (w : World). Stood (settingsOf c) w (rules.calls (settingsOf c) (map ruleOf ks) (fresh (settingsOf c) mode)))
         (sym (all-entered ks newHub ∙ ap (worlds ks) new-started)) (always c mode ring lost store accepted entries losses payloads ks f)
 
+    -- and the next call, whose answer the entry writes as numbers, answers as the rules do
+    pub host-answers : (ks : List Call) → AllFit ks → (k : Call) → Fits k
+        → Same (rules.calls (settingsOf c) (map ruleOf ks) (fresh (settingsOf c) mode)) k (worldOf (enters ks newHub))
+        (rules.answer (settingsOf c) (ruleOf k) (rules.calls (settingsOf c) (map ruleOf ks) (fresh (settingsOf c) mode)))
+    host-answers ks f k g =
+        subst (λ (w : World). Same (rules.calls (settingsOf c) (map ruleOf ks) (fresh (settingsOf c) mode)) k w
+        (rules.answer (settingsOf c) (ruleOf k) (rules.calls (settingsOf c) (map ruleOf ks) (fresh (settingsOf c) mode))))
+        (sym (all-entered ks newHub ∙ ap (worlds ks) new-started)) (answers c mode ring lost store accepted entries losses payloads ks f k g)
+
 -- ## A refused entry
 
 -- what is kept, beside the areas of a world
@@ -167,7 +177,7 @@ module _ (r : Refusal) (o : numberOf r ≡ 11 → ⊥) (h : Hub) where
       let is : numberOf q ≡ numberOf r = cc in
       rw (ne-eqb (numberOf q) 11 (λ p. o (sym is ∙ p)))
 
-  nak-given : (a : answers.Reported) → Nak.verdictOf a ≡ Refused r → nakOf (h .kept) a .sender ≡ h .kept
+  nak-given : (a : reports.Reported) → Nak.verdictOf a ≡ Refused r → nakOf (h .kept) a .sender ≡ h .kept
   unfolding nakOf
   nak-given (reported.Done s n) e = cc
   nak-given (reported.Refused q) e = refl
