@@ -3,8 +3,7 @@
 -- Assumes nothing.
 use mathlib.Core.Path.{_≡_, refl}
 use mathlib.Core.Bool.{true, false}
-use mathlib.Core.List.{List, [], _∷_}
-use Prim.Native.Nat.{ℕ}
+use mathlib.Core.List.{[], _∷_}
 use Rattle.encapsulate.specs.declared.Place.the-variants.{Only}
 use Rattle.encapsulate.specs.Header.{placeBits, header}
 use Rattle.encapsulate.specs.Split.{count, placeOf}

@@ -6,7 +6,6 @@ use encapsulate::Split;
 use libc::STDOUT_FILENO;
 use numbers::MsgNumber;
 use numbers::SeqNumber;
-use rtt::Rtt;
 use timer::Timer;
 use timers::Timers;
 use timers::TimersSet;
@@ -50,6 +49,18 @@ fn show(h: [u8; 16]) {
     text(b"\n");
 }
 
+// The header of a message's only packet, `again` where it was sent before.
+fn only(again: bool, number: u32, message: u32, stamp: u32, id: u32) {
+    show(encapsulate::header(
+        Place::Only,
+        again,
+        SeqNumber(number),
+        MsgNumber(message),
+        stamp,
+        id,
+    ));
+}
+
 fn period(name: &[u8], t: Timer) {
     text(name);
     decimal(t.period);
@@ -62,39 +73,11 @@ fn main() {
     split(5);
     split(8);
     text(b"number 5, only packet of message 0, stamp 1,000, id 0x11223344, sent and sent again:\n");
-    show(encapsulate::header(
-        Place::Only,
-        false,
-        SeqNumber(5),
-        MsgNumber(0),
-        1_000,
-        0x1122_3344,
-    ));
-    show(encapsulate::header(
-        Place::Only,
-        true,
-        SeqNumber(5),
-        MsgNumber(0),
-        1_000,
-        0x1122_3344,
-    ));
+    only(false, 5, 0, 1_000, 0x1122_3344);
+    only(true, 5, 0, 1_000, 0x1122_3344);
     text(b"two headers from the wire of a real receiver:\n");
-    show(encapsulate::header(
-        Place::Only,
-        false,
-        SeqNumber(0x09d9_589a),
-        MsgNumber(2),
-        0x6ee,
-        0x3900_e136,
-    ));
-    show(encapsulate::header(
-        Place::Only,
-        true,
-        SeqNumber(0x09d9_5cc6),
-        MsgNumber(0x42e),
-        0xbe0,
-        0x3900_e136,
-    ));
+    only(false, 0x09d9_589a, 2, 0x6ee, 0x3900_e136);
+    only(true, 0x09d9_5cc6, 0x42e, 0xbe0, 0x3900_e136);
     text(b"the timers at the start:\n");
     if let TimersSet::Done(ts) = Timers::new(0, 1_000_000_000, 5_000_000_000) {
         let snd = ts.snd;

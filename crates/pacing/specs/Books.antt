@@ -7,7 +7,7 @@
 -- Assumes nothing.
 pub mod Laws
 use mathlib.Core.Bool.{Bool, true, cond, _&&_}
-use Prim.Native.Nat.{ℕ, _^_}
+use Prim.Native.Nat.{_^_}
 use lib.Dec.{ltb}
 use Rattle.refusals.specs.declared.Refusal.the-variants.{BadSetting}
 use Rattle.pacing.specs.declared.options.LiveBandwidthMode.{LiveBandwidthMode}

@@ -5,7 +5,7 @@
 -- Assumes nothing.
 pub mod Laws
 use mathlib.Core.Bool.{Bool, _&&_}
-use Prim.Native.Nat.{ℕ, _≤_}
+use Prim.Native.Nat.{_≤_}
 use lib.Dec.{leb}
 use Rattle.rtt.specs.declared.Rtt.{Rtt}
 

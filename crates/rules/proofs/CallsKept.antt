@@ -25,30 +25,17 @@ use Rattle.rules.specs.Promises.{AllGiven, Given}
 use Rattle.rules.specs.Refusals.{badRtt}
 use Rattle.rules.specs.Sender.{Packet, Sender, fresh, remove, sentOf, wireSizes}
 use Rattle.rules.specs.Settings.{Settings, inRange}
-use Rattle.rules.specs.Books.Laws.{Ascends, Fields, Kept}
+use Rattle.rules.specs.Books.Laws.{Fields, Kept}
 use Rattle.rules.specs.Calls.Laws.{answer-by}
 use Rattle.rules.proofs.Entering.{enterAll-ascends, runs-inside}
 use Rattle.rules.proofs.Frame.{and-l, and-r}
 use Rattle.rules.proofs.MessageKept.{push-kept}
-use Rattle.rules.proofs.RunKept.{gone-kept, run-kept}
+use Rattle.rules.proofs.RunKept.{gone-kept, run-kept, same-kept}
 use Rattle.rules.proofs.Verdicts.{ack-stale, ack-taken, message-taken, run-taken}
 use Rattle.rtt.specs.Rtt as RttOf
 use Rattle.pacing.specs.Books.Laws as PacingLaws
 
 module _ (c : Settings) where
-  -- another loss list in order, and other fields in range
-  same-kept : (s t : Sender) → t .packets ≡ s .packets → t .front ≡ s .front → t .next ≡ s .next → t .bytes ≡ s .bytes
-      → Ascends (s .front) (s .next) (t .lost) → Fields c (t .rtt) (t .messages) (t .expected) (t .held) (t .pacing) → Kept c s → Kept c t
-  same-kept s t p f n b a o g = record {
-    good = record { low = rw (f, n) (g .good .low); high = rw (f, n, p) (g .good .high); lost = rw (f, n) a };
-    fits = rw p (g .fits);
-    old = rw (p, f, n) (g .old);
-    new = rw (p, f, n) (g .new);
-    small = rw b (g .small);
-    covers = rw (p, b) (g .covers);
-    fields = o;
-  }
-
   rtt-fields : (rtt : Option Rtt) (s : Sender) → badRtt rtt ≡ false → Fields c (s .rtt) (s .messages) (s .expected) (s .held) (s .pacing)
       → Fields c (given rtt (s .rtt)) (s .messages) (s .expected) (s .held) (s .pacing)
   unfolding given badRtt
@@ -65,7 +52,7 @@ module _ (c : Settings) where
 
   pub takeRtt-kept : (rtt : Option Rtt) (s : Sender) → badRtt rtt ≡ false → Kept c s → Kept c (takeRtt rtt s)
   unfolding takeRtt
-  takeRtt-kept rtt s e g = same-kept s (takeRtt rtt s) refl refl refl refl (g .good .lost) (rtt-fields rtt s e (g .fields)) g
+  takeRtt-kept rtt s e g = same-kept c s (takeRtt rtt s) refl refl refl refl (g .good .lost) (rtt-fields rtt s e (g .fields)) g
 
   expect-fields : (n : ℕ) (full : Option ℕ) (rtt : Option Rtt) (s : Sender) → Given (ack n full rtt)
       → Fields c (s .rtt) (s .messages) (s .expected) (s .held) (s .pacing)
@@ -88,13 +75,13 @@ module _ (c : Settings) where
   acknowledge-kept n d full rtt s h l g =
       let r = gone-kept c d s (omega (arith, g .good .high)) g in
       let m : max (s .next) (s .front + d) ≡ s .next = omega (arith, g .good .low) in
-      same-kept (remove d (s .bytes - wireSizes c (take d (s .packets))) s) (acknowledge c d full s) refl refl (sym m) refl
+      same-kept c (remove d (s .bytes - wireSizes c (take d (s .packets))) s) (acknowledge c d full s) refl refl (sym m) refl
       (r .good .lost) (expect-fields n full rtt s h (g .fields)) r
 
   pub report-kept : (is : List Item) (s : Sender) → Kept c s → Kept c (report is s)
   unfolding report
   report-kept is s g =
-      same-kept s (report is s) refl refl refl refl
+      same-kept c s (report is s) refl refl refl refl
       (enterAll-ascends s (runsOf s is) (s .lost) (g .good .low) (runs-inside s is) (g .good .lost))
       (g .fields) g
 

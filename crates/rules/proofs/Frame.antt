@@ -16,7 +16,7 @@ use Rattle.rules.specs.Run.{Rule, Turn, dropped, due, extra, first, flus
 use Rattle.rules.specs.Sender.{Packet, Sender, end, from, remove, sentOf, wireSizes}
 use Rattle.rules.specs.Settings.{Settings}
 use Rattle.rules.specs.Books.Laws.{Ascends, Good}
-use Rattle.rules.specs.Run.Laws.{Applies, isDue, split, sweep, turns}
+use Rattle.rules.specs.Run.Laws.{Applies, isDue, turns}
 use Rattle.rules.proofs.Lists.{from-ascends, widen}
 
 pub remove-good : (k b : ℕ) (s : Sender) → k ≤ length (s .packets) → Good s → Good (remove k b s)
@@ -139,9 +139,3 @@ module _ (c : Settings) (now : ℕ) where
   unfolding dropped
   dropped-good zero s h g = g
   dropped-good (suc k) s h g = remove-good (suc k) (s .bytes) s h g
-
-  pub split-good : (draining : Bool) (p : ℕ) (s : Sender) → Good s → Good (split c now draining p s .after)
-  unfolding split sweep
-  split-good draining zero s g = g
-  split-good draining (suc p) s g =
-      turns-good draining (suc p) (suc p) (sweep c now s .after) (dropped-good (late c now (s .packets)) s (late-le (s .packets)) g)

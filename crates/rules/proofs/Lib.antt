@@ -14,7 +14,9 @@ pub mod Served
 pub mod Drops
 pub mod Counts
 pub mod Places
+pub mod Joined
 pub mod Losses
+pub mod Later
 pub mod Rollover
 pub mod Once
 pub mod Store

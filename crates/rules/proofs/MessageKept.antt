@@ -2,9 +2,11 @@
 -- overhead of each, removal from the front keeps the rules, and so does a push where there is room.
 -- Assumes nothing.
 use mathlib.Core.Path.{_≡_, ap, refl}
-use mathlib.Core.Bool.{Bool, _||_, false, true, true≢false}
+use mathlib.Core.Bool.{Bool, false, true}
+use mathlib.Mathlib.Data.Bool.Basic.{or-eq-false-eq-eq-false-and-eq-false as neither}
 use mathlib.Core.List.{List, [], _∷_}
-use Prim.Native.Nat.{_*_, _+_, _-_, _<_, _^_, _≤_, suc, zero, ℕ}
+use mathlib.Core.Option.{none}
+use Prim.Native.Nat.{_%_, _*_, _+_, _-_, _<_, _^_, _≤_, suc, zero, ℕ}
 use native.Mathlib.Omega.{arith}
 use native.Mathlib.Nat.{mod-lt}
 use lib.Dec.{leb, lit<}
@@ -17,10 +19,12 @@ use Rattle.rules.specs.Message.{append, begin, makeRoom, packetOf, packe
 use Rattle.rules.specs.Refusals.{countIsFull}
 use Rattle.rules.specs.Sender.{Packet, Sender, sentOf, wireSizes}
 use Rattle.rules.specs.Settings.{Settings, capacity}
-use Rattle.rules.specs.Books.Laws.{All, Kept, Unsent}
+use Rattle.rules.specs.Books.Laws.{All, Fields, Kept, Unsent}
 use Rattle.rules.specs.Run.Laws.{two}
 use Rattle.rules.proofs.Packets.{all-snoc, sizes-append}
-use Rattle.rules.proofs.RunKept.{gone-kept}
+use Rattle.rules.proofs.RunKept.{gone-kept, same-kept}
+use Rattle.pacing.specs.declared.SenderCongestionControl.{SenderCongestionControl}
+use Rattle.pacing.specs.Books as PacingBooks
 use Rattle.pacing.specs.Pacing as PacingIn
 use Rattle.pacing.specs.Books.Laws as PacingLaws
 use Rattle.pacing.specs.Pacing.Laws as PacingInLaws
@@ -28,10 +32,6 @@ use Rattle.pacing.specs.Pacing.Laws as PacingInLaws
 count-least : (size len : ℕ) → 1 ≤ count size len
 unfolding count
 count-least size len = omega arith
-
-neither : (a b : Bool) → (a || b) ≡ false → (a ≡ false) × (b ≡ false)
-neither false b e = (refl, e)
-neither true b e = (e, absurd (true≢false e))
 
 module _ (c : Settings) where
   module _ (t m len : ℕ) (early : t < 2 ^ 48) (few : m < 2 ^ 26) where
@@ -107,34 +107,35 @@ module _ (c : Settings) where
       pushAll-kept ps (append c p (makeRoom c s)) (f .1) (omega (arith, r .1))
       (append-kept p (makeRoom c s) (f .0) (room-fits s g) (omega (arith, r .1)) (r .0))
 
+  -- the fields once a message has its number, whatever pacing is
+  pub numbered-fields : (s : Sender) (p : SenderCongestionControl) → PacingBooks.kept p ≡ true → Kept c s
+      → Fields c (s .rtt) ((s .messages + 1) % 2 ^ 26) (s .expected) none p
+  numbered-fields s p e g = record {
+    settings = g .fields .settings;
+    rtt = g .fields .rtt;
+    messages = mod-lt (s .messages + 1) (lit< tt);
+    least = g .fields .least;
+    most = g .fields .most;
+    held = tt;
+    pacing = e;
+  }
+
   pub begin-kept : (now len : ℕ) (s : Sender) → now < 2 ^ 48 → PacingIn.countFull (s .pacing) now (count (c .size) len) len ≡ false
       → Kept c s → Kept c (begin c now len s)
   unfolding begin
-  begin-kept now len s early full g = record {
-    good = record { low = g .good .low; high = g .good .high; lost = g .good .lost };
-    fits = g .fits;
-    old = g .old;
-    new = g .new;
-    covers = g .covers;
-    small = g .small;
-    fields = record {
-      settings = g .fields .settings;
-      rtt = g .fields .rtt;
-      messages = mod-lt (s .messages + 1) (lit< tt);
-      least = g .fields .least;
-      most = g .fields .most;
-      held = tt;
-      pacing = PacingLaws.facts-kept _
-          (PacingInLaws.after-kept (s .pacing) now (count (c .size) len) len
-          (PacingInLaws.accepted (s .pacing) now (count (c .size) len) len (g .fields .pacing) early full));
-    };
-  }
+  begin-kept now len s early full g =
+      same-kept c s (begin c now len s) refl refl refl refl (g .good .lost)
+      (numbered-fields s _
+      (PacingLaws.facts-kept _
+      (PacingInLaws.after-kept (s .pacing) now (count (c .size) len) len
+      (PacingInLaws.accepted (s .pacing) now (count (c .size) len) len (g .fields .pacing) early full))) g) g
 
   pub push-kept : (t now len : ℕ) (s : Sender) → 1 ≤ c .size → t < 2 ^ 48 → now < 2 ^ 48 → countIsFull c now len s ≡ false
       → Kept c s → Kept c (push c t now len s)
   unfolding push countIsFull begin
   push-kept t now len s pos early soon full g =
-      let two = neither (leb (2 ^ 62) (s .bytes + len + count (c .size) len * c .overhead)) _ full in
+      let two = neither (leb (2 ^ 62) (s .bytes + len + count (c .size) len * c .overhead))
+      (PacingIn.countFull (s .pacing) now (count (c .size) len) len) .0 full in
       let small : s .bytes + len + count (c .size) len * c .overhead < 2 ^ 62 = leb-false _ _ (two .0) in
       pushAll-kept (packetsOf c t (s .messages) len) (begin c now len s)
       (packets-unsent t (s .messages) len early (g .fields .messages) 0 (count (c .size) len))

@@ -5,154 +5,40 @@ use mathlib.Core.Path.{_∙_, _≡_, ap, refl, sym}
 use mathlib.Core.Bool.{Bool, _&&_, false, true}
 use mathlib.Core.List.{List, [], _++_, _∷_, map}
 use mathlib.Core.Option.{some}
-use Prim.Native.Nat.{_%_, _+_, _-_, _<_, _^_, _≤_, max, min, suc, zero, ℕ}
+use Prim.Native.Nat.{_%_, _+_, _-_, _<_, _^_, _≤_, max, suc, zero, ℕ}
 use native.Mathlib.Omega.{arith}
 use lib.Dec.{eqb, ltb}
-use lib.ListN.{drop, getD, length, set, take}
-use borrow.Author.Tests.{le-ltb, lt-ltb, ltb-false, ltb-true}
-use Rattle.refusals.specs.Choice.{cond-by, cond-false, cond-true}
-use Rattle.encapsulate.specs.Split.{count}
-use Rattle.rules.specs.Calls.{after}
+use lib.ListN.{drop, length, take}
+use borrow.Author.Tests.{ltb-true}
+use Rattle.refusals.specs.Choice.{cond-false, cond-true}
 use Rattle.rules.specs.Numbers.{wire}
-use Rattle.rules.specs.Records.{Action, ByLoss, ByTime, Drop, Kind, Send, WaitAck, WaitInput, dropRecord, isSend, sendRecord, sends, waitAck, waitInput}
-use Rattle.rules.specs.Run.{Result, Rule, Turn, base, dropped, due, earliest, extra, first, flush, flushed, input, isLate, join, late, lateFrom, loop, loss, obey, others, rule, run, send, sendNext, sent, stamped, unsent, wait, window}
-use Rattle.rules.specs.Sender.{Packet, Sender, end, from, nothing, packet, put, sentOf, wireSizes}
-use Rattle.rules.specs.Settings.{Settings, capacity, lateWindow}
-use Rattle.rules.specs.Books.Laws.{All, Ascends, Good, Kept, Sent}
-use Rattle.rules.specs.Promises.Drops.{drops}
-use Rattle.rules.specs.Promises.Times.{later, laterAction, laterPacket, resendLater}
+use Rattle.rules.specs.Records.{ByLoss, ByTime, Kind, Send, dropRecord, isSend, sendRecord, sends, waitAck, waitInput}
+use Rattle.rules.specs.Run.{Result, Rule, Turn, dropped, due, earliest, extra, first, flush, flushed, input, join, late, loop, loss, obey, others, rule, run, send, sendNext, unsent, window}
+use Rattle.rules.specs.Sender.{Packet, Sender, end, from, packet, put, sentOf, wireSizes}
+use Rattle.rules.specs.Settings.{Settings, capacity}
+use Rattle.rules.specs.Books.Laws.{Ascends, Good, Kept}
+use Rattle.rules.specs.Promises.Times.{later, laterAction, laterPacket}
 use Rattle.rules.specs.Run.Laws.{Applies, split, sweep, turns}
 use Rattle.rules.proofs.Frame.{and-r, late-le, rule-applies}
 use Rattle.rules.proofs.None.{due-some}
 use Rattle.rules.proofs.RunKept.{dropped-kept, others-kept}
 use Rattle.rules.proofs.Split.{loop-end, loop-on, run-is}
-
-ltb-later : (a b d : ℕ) → ltb (a + d) (b + d) ≡ ltb a b
-ltb-later a b d = go (ltb a b) refl
-  where
-    go : (t : Bool) → ltb a b ≡ t → ltb (a + d) (b + d) ≡ ltb a b
-    go true e = let h : a < b = ltb-true _ _ e in rw e (lt-ltb (a + d) (b + d) (omega arith))
-    go false e = let h : b ≤ a = ltb-false _ _ e in rw e (le-ltb (a + d) (b + d) (omega arith))
-
-map-drop : (f : Packet → Packet) (k : ℕ) (ps : List Packet) → drop k (map f ps) ≡ map f (drop k ps)
-map-drop f zero ps = refl
-map-drop f (suc k) [] = refl
-map-drop f (suc k) (p ∷ ps) = map-drop f k ps
-
-map-take : (f : Packet → Packet) (k : ℕ) (ps : List Packet) → take k (map f ps) ≡ map f (take k ps)
-map-take f zero ps = refl
-map-take f (suc k) [] = refl
-map-take f (suc k) (p ∷ ps) = ap (λ (l : List Packet). f p ∷ l) (map-take f k ps)
-
-map-set : (f : Packet → Packet) (ps : List Packet) (i : ℕ) (x : Packet) → set (map f ps) i (f x) ≡ map f (set ps i x)
-map-set f [] i x = refl
-map-set f (p ∷ ps) zero x = refl
-map-set f (p ∷ ps) (suc i) x = ap (λ (l : List Packet). f p ∷ l) (map-set f ps i x)
-
-map-at : (f : Packet → Packet) (ps : List Packet) (i : ℕ) → i < length ps → getD (map f ps) i nothing ≡ f (getD ps i nothing)
-map-at f [] i h = absurd (omega arith)
-map-at f (p ∷ ps) zero h = refl
-map-at f (p ∷ ps) (suc i) h = map-at f ps i (omega arith)
-
-map-length : (f : Packet → Packet) (ps : List Packet) → length (map f ps) ≡ length ps
-map-length f [] = refl
-map-length f (p ∷ ps) = ap suc (map-length f ps)
-
-resend-later : (d n r : ℕ) → 1 ≤ n → resendLater d n r ≡ r + d
-unfolding resendLater
-resend-later d zero r h = absurd (omega arith)
-resend-later d (suc n) r h = refl
+use Rattle.rules.proofs.Later.{earliest-later, late-later, map-append, map-drop, map-length, map-take, packet-later, record-later, sends-later, sent-later, sizes-later}
 
 module _ (c : Settings) (d now : ℕ) where
-  late-later-one : (p : Packet) → isLate c (now + d) (laterPacket d p) ≡ isLate c now p
-  unfolding laterPacket
-  late-later-one p =
-      let e : p .time + d + lateWindow c ≡ p .time + lateWindow c + d = omega arith in
-      ap (λ (x : ℕ). ltb x (now + d)) e ∙ ltb-later (p .time + lateWindow c) now d
-
-  lateFrom-later : (m : ℕ) (ps : List Packet) → lateFrom c (now + d) m (map (laterPacket d) ps) ≡ lateFrom c now m ps
-  unfolding lateFrom laterPacket
-  lateFrom-later m [] = refl
-  lateFrom-later m (p ∷ ps) = rw (late-later-one p, lateFrom-later (p .message) ps, lateFrom-later m ps)
-
-  late-later : (ps : List Packet) → late c (now + d) (map (laterPacket d) ps) ≡ late c now ps
-  unfolding late laterPacket
-  late-later [] = refl
-  late-later (p ∷ ps) = rw (late-later-one p, lateFrom-later (p .message) ps)
-
-  earliest-later : (t n : ℕ) (ps : List Packet) → All (Sent c) ps → earliest (t + d) n (map (laterPacket d) ps) ≡ earliest t n ps
-  unfolding earliest laterPacket
-  earliest-later t n [] a = refl
-  earliest-later t n (p ∷ ps) a =
-      let e : resendLater d (p .count) (p .resend) ≡ p .resend + d = resend-later d (p .count) (p .resend) (a .0 .once) in
-      rw (e, ltb-later (p .resend) t d, earliest-later (p .resend) (suc n) ps (a .1), earliest-later t (suc n) ps (a .1))
-
-  packet-later : (s : Sender) (n : ℕ) → n - s .front < length (s .packets) → packet (later d s) n ≡ laterPacket d (packet s n)
-  unfolding packet later
-  packet-later s n h = map-at (laterPacket d) (s .packets) (n - s .front) h
-
-  stamped-later : (s : Sender) (p : Packet) → stamped (now + d) (later d s) (laterPacket d p) ≡ laterPacket d (stamped now s p)
-  unfolding stamped later laterPacket base
-  stamped-later s p =
-      let w : ℕ = wait (base s) (p .count) in
-      let e : now + d + wait (base s) (p .count) ≡ resendLater d (min 65_535 (p .count + 1)) (now + wait (base s) (p .count)) =
-      omega (arith, resend-later d (min 65_535 (p .count + 1)) (now + wait (base s) (p .count)) (omega arith))
-      in
-      λ i. record {
-        time = p .time + d;
-        message = p .message;
-        place = p .place;
-        len = p .len;
-        count = min 65_535 (p .count + 1);
-        resend = e i;
-      }
-
-  sent-later : (s : Sender) (n : ℕ) → n - s .front < length (s .packets) → sent (now + d) (later d s) n ≡ map (laterPacket d) (sent now s n)
-  unfolding sent later
-  sent-later s n h =
-      ap (λ (p : Packet). set (map (laterPacket d) (s .packets)) (n - s .front) (stamped (now + d) (later d s) p)) (packet-later s n h)
-      ∙ (ap (λ (p : Packet). set (map (laterPacket d) (s .packets)) (n - s .front) p) (stamped-later s (packet s n))
-      ∙ map-set (laterPacket d) (s .packets) (n - s .front) (stamped now s (packet s n)))
-
-  record-later : (k : Kind) (n : ℕ) (p : Packet) → isSend k ≡ 1 → sendRecord k n (laterPacket d p) ≡ laterAction d (sendRecord k n p)
-  unfolding sendRecord laterPacket laterAction
-  record-later Send n p e = refl
-  record-later ByTime n p e = refl
-  record-later ByLoss n p e = refl
-  record-later Drop n p e = absurd (omega arith)
-  record-later WaitInput n p e = absurd (omega arith)
-  record-later WaitAck n p e = absurd (omega arith)
-
   abbrev laterTurn : Turn → Turn
   laterTurn t = record { records = map (laterAction d) (t .records); after = later d (t .after); ends = t .ends }
 
   abbrev pub laterResult : Result → Result
   laterResult r = record { records = map (laterAction d) (r .records); after = later d (r .after); left = r .left }
 
-  kind-later : (a : Action) → isSend (laterAction d a .kind) ≡ isSend (a .kind)
-  unfolding laterAction
-  kind-later a = cond-by (λ (b : Action). isSend (b .kind) ≡ isSend (a .kind)) (eqb (isSend (a .kind)) 1) _ a (λ e. refl) (λ e. refl)
-
-  sends-later : (rs : List Action) → sends (map (laterAction d) rs) ≡ sends rs
-  sends-later [] = refl
-  sends-later (a ∷ rs) = omega (arith, kind-later a, sends-later rs)
-
-  map-append : (rs qs : List Action) → map (laterAction d) (rs ++ qs) ≡ map (laterAction d) rs ++ map (laterAction d) qs
-  map-append [] qs = refl
-  map-append (a ∷ rs) qs = ap (λ (l : List Action). laterAction d a ∷ l) (map-append rs qs)
-
-  sizes-later : (ps : List Packet) → wireSizes c (map (laterPacket d) ps) ≡ wireSizes c ps
-  unfolding wireSizes laterPacket
-  sizes-later [] = refl
-  sizes-later (p ∷ ps) = ap (λ (n : ℕ). p .len + c .overhead + n) (sizes-later ps)
-
   module _ (draining : Bool) where
     send-later : (k : Kind) (n m : ℕ) (l : List ℕ) (s : Sender) → isSend k ≡ 1 → n - s .front < length (s .packets)
         → send c (now + d) draining k n m l (later d s) ≡ laterTurn (send c now draining k n m l s)
     unfolding send later
     send-later k n m l s e h = λ i. record {
-      records = (ap (sendRecord k n) (packet-later s n h) ∙ record-later k n (packet s n) e) i ∷ [];
-      after = put s (sent-later s n h i) (s .front) m l (s .bytes);
+      records = (ap (sendRecord k n) (packet-later c d now s n h) ∙ record-later c d now k n (packet s n) e) i ∷ [];
+      after = put s (sent-later c d now s n h i) (s .front) m l (s .bytes);
       ends = false;
     }
 
@@ -185,7 +71,7 @@ module _ (c : Settings) (d now : ℕ) where
               ends = false;
             })
             ∙ ((λ i. record {
-              records = sym (map-append (t .records) (sendNext c now draining s .records)) i;
+              records = sym (map-append c d now (t .records) (sendNext c now draining s .records)) i;
               after = later d
                   (sendNext c now draining s .after);
               ends = false;
@@ -195,7 +81,7 @@ module _ (c : Settings) (d now : ℕ) where
 
     len-later : (s : Sender) → length (s .packets) ≡ 1 → packet (later d s) (s .front) .len ≡ packet s (s .front) .len
     unfolding laterPacket
-    len-later s single = ap (λ (p : Packet). p .len) (packet-later s (s .front) (omega arith))
+    len-later s single = ap (λ (p : Packet). p .len) (packet-later c d now s (s .front) (omega arith))
 
     window-later : (s : Sender) → obey c (now + d) draining window (later d s) ≡ laterTurn (obey c now draining window s)
     unfolding obey later laterAction waitAck
@@ -215,7 +101,7 @@ module _ (c : Settings) (d now : ℕ) where
         let f = laterPacket d in
         let drops : drop 1 (map (laterPacket d) (s .packets)) ≡ map (laterPacket d) (drop 1 (s .packets)) = map-drop f 1 (s .packets) in
         let sizes : wireSizes c (take 1 (map (laterPacket d) (s .packets))) ≡ wireSizes c (take 1 (s .packets)) =
-        ap (wireSizes c) (map-take f 1 (s .packets)) ∙ sizes-later (take 1 (s .packets))
+        ap (wireSizes c) (map-take f 1 (s .packets)) ∙ sizes-later c d now (take 1 (s .packets))
         in
         let count : length (map (laterPacket d) (s .packets)) ≡ length (s .packets) = map-length f (s .packets) in
         let len : packet (later d s) (s .front) .len ≡ packet s (s .front) .len = len-later s single in
@@ -247,20 +133,20 @@ module _ (c : Settings) (d now : ℕ) where
         (send c (now + d) draining Send (s .next) (suc (s .next)) (s .lost) (later d s))
         (send-later Send (s .next) (suc (s .next)) (s .lost) s refl (omega (arith, g .low))) (send-low s g)
     obey-later flush s g a =
-        let p = packet-later s (s .front) (omega arith) in
+        let p = packet-later c d now s (s .front) (omega arith) in
         λ i. record {
-          records = (ap (sendRecord Send (s .front)) p ∙ record-later Send (s .front) (packet s (s .front)) refl) i ∷ [];
+          records = (ap (sendRecord Send (s .front)) p ∙ record-later c d now Send (s .front) (packet s (s .front)) refl) i ∷ [];
           after = flushed-later s (a .5) i;
           ends = false;
         }
     obey-later input s g a = input-later s
 
     joined-later : (t : Turn) (r : Result) → join (laterTurn t) (laterResult r) ≡ laterResult (join t r)
-    joined-later t r = λ i. record { records = sym (map-append (t .records) (r .records)) i; after = later d (r .after); left = r .left }
+    joined-later t r = λ i. record { records = sym (map-append c d now (t .records) (r .records)) i; after = later d (r .after); left = r .left }
 
     late-of : (s : Sender) → late c (now + d) (later d s .packets) ≡ late c now (s .packets)
     unfolding later
-    late-of s = late-later (s .packets)
+    late-of s = late-later c d now (s .packets)
 
     rule-later : (s : Sender) → Kept c s → rule c (now + d) draining (later d s) ≡ rule c now draining s
     unfolding rule later
@@ -269,7 +155,7 @@ module _ (c : Settings) (d now : ℕ) where
         let e : earliest (now + d) (s .front) (take (sentOf s) (map (laterPacket d) (s .packets)))
         ≡ earliest now (s .front) (take (sentOf s) (s .packets)) =
         ap (earliest (now + d) (s .front)) (map-take (laterPacket d) (sentOf s) (s .packets))
-        ∙ earliest-later now (s .front) (take (sentOf s) (s .packets)) (g .old)
+        ∙ earliest-later c d now now (s .front) (take (sentOf s) (s .packets)) (g .old)
         in
         λ i. first (s .lost) (e i) (ltb (c .flow) (sentOf s)) (ltb (s .next) (s .front + n i)) (draining && eqb (n i) 1)
 
@@ -303,7 +189,7 @@ module _ (c : Settings) (d now : ℕ) where
         go false e q ih =
             loop-on (others c (now + d) draining) f b (later d s) (ap (λ (u : Turn). u .ends) q ∙ e)
             ∙ (ap (λ (u : Turn). join u (turns c (now + d) draining f (suc b - sends (u .records)) (u .after))) q
-            ∙ (ap (λ (n : ℕ). join (laterTurn t) (turns c (now + d) draining f (suc b - n) (later d (t .after)))) (sends-later (t .records))
+            ∙ (ap (λ (n : ℕ). join (laterTurn t) (turns c (now + d) draining f (suc b - n) (later d (t .after)))) (sends-later c d now (t .records))
             ∙ (ap (join (laterTurn t)) ih
             ∙ (joined-later t (turns c now draining f (suc b - sends (t .records)) (t .after))
             ∙ ap laterResult (sym (loop-on (others c now draining) f b s e))))))

@@ -1,4 +1,5 @@
--- Every turn of a run, and so a run, keeps the book rules: removal from the front, a resend, a first sending, the flush.
+-- Every turn of a run, and so a run, keeps the book rules: removal from the front, a resend, a first sending, the flush. `same-kept` serves
+-- every call that leaves the packets and their numbers.
 -- Assumes nothing.
 use mathlib.Core.Path.{_≡_, refl}
 use mathlib.Core.Bool.{Bool, _&&_, false, true}
@@ -15,7 +16,7 @@ use Rattle.rules.specs.Records.{ByLoss, ByTime, Kind, Send, sends}
 use Rattle.rules.specs.Run.{Rule, Turn, base, dropped, due, extra, flush, flushed, input, late, loop, loss, obey, others, rule, run, send, sent, stamped, unsent, wait, window}
 use Rattle.rules.specs.Sender.{Packet, Sender, end, nothing, packet, remove, sentOf, wireSizes}
 use Rattle.rules.specs.Settings.{Settings}
-use Rattle.rules.specs.Books.Laws.{Ascends, Kept, Sent, Unsent}
+use Rattle.rules.specs.Books.Laws.{Ascends, Fields, Kept, Sent, Unsent}
 use Rattle.rules.specs.Run.Laws.{Applies, split, sweep, turns}
 use Rattle.rules.proofs.Frame.{and-r, late-le, remove-good, rule-applies, send-good, sent-length}
 use Rattle.rules.proofs.Lists.{widen}
@@ -24,6 +25,19 @@ use Rattle.rules.proofs.Packets.{all-at, all-drop, all-set, all-snoc, d
 use Rattle.rules.proofs.Split.{loop-end, loop-on, run-is}
 
 module _ (c : Settings) where
+  -- the same packets and numbers, another loss list in order, other fields in range
+  pub same-kept : (s t : Sender) → t .packets ≡ s .packets → t .front ≡ s .front → t .next ≡ s .next → t .bytes ≡ s .bytes
+      → Ascends (s .front) (s .next) (t .lost) → Fields c (t .rtt) (t .messages) (t .expected) (t .held) (t .pacing) → Kept c s → Kept c t
+  same-kept s t p f n b a o g = record {
+    good = record { low = rw (f, n) (g .good .low); high = rw (f, n, p) (g .good .high); lost = rw (f, n) a };
+    fits = rw p (g .fits);
+    old = rw (p, f, n) (g .old);
+    new = rw (p, f, n) (g .new);
+    small = rw b (g .small);
+    covers = rw (p, b) (g .covers);
+    fields = o;
+  }
+
   pub remove-kept : (k b : ℕ) (s : Sender) → k ≤ length (s .packets) → wireSizes c (drop k (s .packets)) ≤ b → b ≤ s .bytes → Kept c s
       → Kept c (remove k b s)
   remove-kept k b s h l u g =
@@ -147,23 +161,16 @@ module _ (c : Settings) where
     obey-kept flush s a g =
         let r = gone-kept 1 s (omega arith) g in
         let q = old-at s (s .front) g (omega arith) (omega arith) (omega arith) (simp length-take (omega arith)) in
-        record {
-          good = record { low = r .good .low; high = r .good .high; lost = r .good .lost };
-          fits = r .fits;
-          old = r .old;
-          new = r .new;
-          small = r .small;
-          covers = r .covers;
-          fields = record {
-            settings = g .fields .settings;
-            rtt = g .fields .rtt;
-            messages = g .fields .messages;
-            least = g .fields .least;
-            most = g .fields .most;
-            held = (mod-lt _ (omega arith), q .len);
-            pacing = g .fields .pacing;
-          };
-        }
+        same-kept (remove 1 (s .bytes - wireSizes c (take 1 (s .packets))) s) (flushed c now draining s) refl refl refl refl (r .good .lost)
+        (record {
+          settings = g .fields .settings;
+          rtt = g .fields .rtt;
+          messages = g .fields .messages;
+          least = g .fields .least;
+          most = g .fields .most;
+          held = (mod-lt _ (omega arith), q .len);
+          pacing = g .fields .pacing;
+        }) r
     obey-kept input s a g = g
 
     pub others-kept : (s : Sender) → Kept c s → Kept c (others c now draining s .after)

@@ -153,18 +153,6 @@ module _ (c : Settings) (now : ℕ) where
         go (one e z l) ih = on e (omega arith) ih
         go (two x y e q i j d) ih = on e (rw q (omega arith)) ih
 
-    -- the loop over rules 2 to 7 as code has it, with no fuel: it ends at a wait, or goes on with the budget that is left
-    pub rest-end : (b : ℕ) (s : Sender) → others c now draining s .ends ≡ true
-        → turns c now draining (suc b) (suc b) s
-        ≡ record { records = others c now draining s .records; after = others c now draining s .after; left = suc b }
-    rest-end b s e = loop-end (others c now draining) b b s e
-
-    pub rest-on : (b n : ℕ) (s : Sender) → others c now draining s .ends ≡ false → suc b - sends (others c now draining s .records) ≡ n
-        → n ≤ b
-        → turns c now draining (suc b) (suc b) s
-        ≡ join (others c now draining s) (turns c now draining n n (others c now draining s .after))
-    rest-on b n s e q l = loop-on (others c now draining) b b s e ∙ rw (q, fuel b n n (others c now draining s .after) l (omega arith))
-
     dropped-on : (k : ℕ) (s : Sender) → dropped c now k s .ends ≡ false
     unfolding dropped
     dropped-on zero s = refl

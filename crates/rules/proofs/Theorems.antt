@@ -30,7 +30,7 @@ use Rattle.refusals.specs.Verdict.Laws.{when-accepted}
 use Rattle.pacing.specs.declared.options.LiveBandwidthMode.{LiveBandwidthMode}
 use Rattle.pacing.specs.Period.{modeInRange}
 use Rattle.rules.specs.Books.{kept}
-use Rattle.rules.specs.Calls.{Answer, Call, Ran, answer, calls, left, records, recordsOf, runs, saidBy, stores}
+use Rattle.rules.specs.Calls.{Answer, Call, Ran, answer, calls, records, recordsOf, runs, saidBy, stores}
 use Rattle.rules.specs.Losses.{Item, items, joined, runsOf, wordsOf}
 use Rattle.rules.specs.Numbers.{wire}
 use Rattle.rules.specs.Promises.{AllGiven, DemandThree, On, Quiet, Within, afterDrop}
@@ -49,7 +49,8 @@ use Rattle.rules.proofs.CallsKept.{calls-kept, fresh-kept}
 use Rattle.rules.proofs.Frame.{and-l, and-r}
 use Rattle.rules.proofs.Held.{calls-hold, fresh-holds}
 use Rattle.rules.proofs.Lists.{on-above, on-below}
-use Rattle.rules.proofs.Losses.{answer-covers, answer-kinds, answer-maximal, answer-room, words-fine}
+use Rattle.rules.proofs.Joined.{answer-maximal, answer-room}
+use Rattle.rules.proofs.Losses.{answer-covers, answer-kinds, words-fine}
 use Rattle.rules.proofs.None.{split-quiet}
 use Rattle.rules.proofs.Places.{buffered-few, calls-numbered, fresh-numbered, payload-place}
 use Rattle.rules.proofs.Room.{split-room}

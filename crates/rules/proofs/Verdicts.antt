@@ -1,11 +1,10 @@
 -- What is known of a call that is accepted, and of an ACK that is refused as stale: none of the tests before holds.
---   Pushable, Ackable, Runnable   what is known of an accepted message, ACK, run; message-taken, ack-taken, nak-taken, run-taken
+--   Pushable, Ackable, Runnable   what is known of an accepted message, ACK, run; message-taken, ack-taken, run-taken
 --   ack-stale                     of an ACK with refusal 11: the books are kept, and the RTT that it brought is in range
 --   not-kept, when-past           where the books break a rule every call answers 3; a refusal other than the first of a chain
 -- Assumes nothing.
 use mathlib.Core.Path.{_≡_, ap, refl}
 use mathlib.Core.Bool.{Bool, _||_, false, not, true, true≢false}
-use mathlib.Core.List.{List}
 use mathlib.Core.Option.{Option}
 use Prim.Native.Nat.{_+_, _<_, _^_, _≤_, min, ℕ}
 use native.Mathlib.Omega.{arith}
@@ -22,9 +21,8 @@ use Rattle.refusals.specs.Table.{numberOf}
 use Rattle.rtt.specs.declared.Rtt.{Rtt}
 use Rattle.rules.specs.Ack.{ackOf}
 use Rattle.rules.specs.Books.{kept}
-use Rattle.rules.specs.Losses.{wordsOf}
 use Rattle.rules.specs.Numbers.{wire}
-use Rattle.rules.specs.Refusals.{ackVerdict, badRtt, countIsFull, fullVerdict, messageVerdict, nakVerdict, runVerdict, wordsVerdict}
+use Rattle.rules.specs.Refusals.{ackVerdict, badRtt, countIsFull, fullVerdict, messageVerdict, runVerdict}
 use Rattle.rules.specs.Sender.{Sender, sentOf}
 use Rattle.rules.specs.Settings.{Settings}
 use Rattle.rules.specs.Books.Laws.{Kept, kept-facts}
@@ -102,11 +100,6 @@ module _ (c : Settings) where
       let b = when-past (leb (2 ^ 31) n) BadNumber _ r (λ q. omega arith) (a .1) in
       let d = when-past (badRtt rtt) BadRtt _ r (λ q. omega arith) (b .1) in
       (kept-facts c s (not-false _ (a .0)), d .0)
-
-  pub nak-taken : (ws : List ℕ) (room : ℕ) (s : Sender) → nakVerdict c ws room s ≡ Accepted
-      → Kept c s × (wordsVerdict (wordsOf ws) room ≡ Accepted)
-  unfolding nakVerdict
-  nak-taken ws room s e = let a = when-accepted _ _ _ e in (kept-facts c s (not-false _ (a .0)), a .1)
 
   pub record Runnable (now p most : ℕ) (s : Sender) : Type 0 where
     pub kept : Kept c s

@@ -8,8 +8,8 @@
 --   flush, window-first        rule 6 holds the payload until the next message; with flow window 0 rule 4 comes before it
 --   stale, tests               the order of an ACK's tests; 11 keeps the RTT, 10 does not
 --   full-buffer, overwritten   a full buffer gives up its front; a message longer than the capacity writes over its own packets
---   words, three-runs, whole   12's index; three runs of one range; 2^30 numbers in no time
---   messages, reports          refusals 4 to 6 at their ends; the five reports
+--   words, three-runs, whole   12's index; three runs of one range; the entries in order, each once
+--   messages, reports          refusals 4 and 13 at their ends; the five reports
 -- Assumes nothing.
 use mathlib.Core.Path.{_≡_, refl}
 use mathlib.Core.Bool.{false, true}
@@ -181,7 +181,7 @@ pub full-buffer : said (small (2 ^ 31 - 1) 2 9)
 unfolding computes
 full-buffer = refl
 
--- five bytes of three lie over the first of one to nine: the third packet's one byte leaves what the first wrote behind it
+-- nine bytes in two slots of four: the third packet's one byte leaves what the first wrote behind it; then two messages side by side
 pub overwritten :
     (stores (small 0 2 9) (message 0 0 (1 ∷ 2 ∷ 3 ∷ 4 ∷ 5 ∷ 6 ∷ 7 ∷ 8 ∷ 9 ∷ []) ∷ []) (begun (small 0 2 9))
     (0 ∷ 0 ∷ 0 ∷ 0 ∷ 0 ∷ 0 ∷ 0 ∷ 0 ∷ 0 ∷ [])
@@ -221,7 +221,6 @@ pub three-runs :
 unfolding computes
 three-runs = (refl, refl)
 
--- the entries stand in order, each once
 pub whole :
     calls (small 100 9 9) (message 0 0 (bytes 12) ∷ runs 0 9 false 9 ∷ nak (102 ∷ (2 ^ 31 + 99) ∷ 101 ∷ (2 ^ 31 + 101) ∷ 102 ∷ []) 9 ∷ [])
     (begun (small 100 9 9)) .lost

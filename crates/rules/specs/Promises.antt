@@ -29,7 +29,6 @@ use Rattle.rules.specs.Run.{dropped, late}
 use Rattle.rules.specs.Sender.{Sender, below, end, packet, sentOf}
 use Rattle.rules.specs.Settings.{Settings}
 
--- a full number is a u32
 abbrev pub Given : Call → Type 0
 Given (message time now bytes) = Unit {0}
 Given (ack number none rtt) = Unit {0}

@@ -1,7 +1,7 @@
 -- Worked examples of one timer, from document 01, "Timers", so that a definition that is wrong in code and specs alike is refused.
 -- Assumes nothing.
 use mathlib.Core.Path.{_≡_, refl}
-use Prim.Native.Nat.{ℕ, _-_, _^_}
+use Prim.Native.Nat.{_^_}
 use Rattle.refusals.specs.declared.Refusal.the-variants.{BadSetting, BadTime}
 use Rattle.timer.specs.declared.Elapsed.the-variants.{Nothing, Periods}
 use Rattle.timer.specs.declared.TimerSet.the-variants.{Done, Refused}

@@ -10,7 +10,7 @@
 --   ticked t now                            what a check gives and leaves
 -- Assumes nothing.
 pub mod Laws
-use mathlib.Core.Bool.{Bool, true, false, cond, not, _&&_}
+use mathlib.Core.Bool.{Bool, cond, not, _&&_}
 use Prim.Native.Nat.{ℕ, _+_, _-_, _*_, _/_, _^_, min, max}
 use lib.Dec.{ltb, leb, eqb}
 use Rattle.refusals.specs.declared.Refusal.the-variants.{BadSetting, BadState, BadTime}

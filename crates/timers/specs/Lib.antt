@@ -1,5 +1,2 @@
-pub mod Checks
 pub mod Examples
-pub mod Periods
 pub mod Timers
-pub mod Wake

@@ -1,13 +1,15 @@
--- All timers of a connection: document 01, "Timers": "every timer in `Timers`"; "RTT periods and the next wake-up are as `calculate_periods`
--- and `next_timer`". When the host must wake is in Wake, what a check gives in Checks.
+-- All timers of a connection: document 01, "What the hub takes from the crate": "every timer in `Timers`"; their calls that make and set.
+-- What a check gives and when the host must wake is in the crate checks, the periods of a round-trip time in the crate periods.
 --   keptAll ts            the book rules of the six timers, and an EXP count of at least 1
---   judge, judgeNew, judgeNext, judgePeriod, judgeRtt     the refusals of the calls, each in the order of their numbers
+--   timers ..             the timers, each in its place
+--   judge, judgeNew, judgePeriod, judgeRtt     the refusals of the calls, each in the order of their numbers
 --   begun, new            the timers at the start; the call
+--   withPeriods ts p      the periods set, and no origin moved
 --   updateSndPeriod, updateRtt, resetExp     the calls that set
 -- Assumes nothing.
 pub mod Always
 pub mod Laws
-use mathlib.Core.Bool.{Bool, false, not, _&&_, _||_}
+use mathlib.Core.Bool.{Bool, not, _&&_, _||_}
 use Prim.Native.Nat.{ℕ}
 use lib.Dec.{ltb, leb}
 use Rattle.refusals.specs.declared.Refusal.the-variants.{BadSetting, BadState, BadTime, BadRtt}
@@ -16,15 +18,13 @@ use Rattle.refusals.specs.declared.Verdict.the-variants as verdict
 use Rattle.refusals.specs.Verdict.{when, answer}
 use Rattle.rtt.specs.declared.Rtt.{Rtt}
 use Rattle.rtt.specs.Rtt.{start, inRange}
+use Rattle.periods.specs.declared.Periods.{Periods}
+use Rattle.periods.specs.Periods.{calculatePeriods}
 use Rattle.timer.specs.declared.Timer.{Timer}
-use Rattle.timers.specs.declared.Periods as three
-use Rattle.timers.specs.declared.NextMessage.{NextMessage}
-use Rattle.timers.specs.declared.NextMessage.the-variants.{Unknown, At}
+use Rattle.timer.specs.Timer.{timeLimit, longest, kept, timer, started}
 use Rattle.timers.specs.declared.Timers.{Timers}
 use Rattle.timers.specs.declared.TimersSet.{TimersSet}
 use Rattle.timers.specs.declared.TimersSet.the-variants as set
-use Rattle.timer.specs.Timer.{timeLimit, longest, kept, timer, started}
-use Rattle.timers.specs.Periods.{calculatePeriods}
 
 abbrev pub keptAll : Timers → Bool
 keptAll ts =
@@ -36,23 +36,15 @@ keptAll ts =
     && (kept (ts .statistics)
     && leb 1 (ts .«exp_count»))))))
 
--- the timers with others in their places
 abbrev pub timers : Timer → Timer → Timer → Timer → ℕ → Timer → Timer → Timers
 timers snd ack nak exp count idle statistics =
     record { snd = snd; «full_ack» = ack; nak = nak; exp = exp; «exp_count» = count; «peer_idle» = idle; statistics = statistics }
-
-abbrev pub tooLate : NextMessage → Bool
-tooLate Unknown = false
-tooLate (At time) = leb timeLimit time
 
 unfoldable pub judge : Timers → ℕ → Verdict
 judge ts now = when (not (keptAll ts)) BadState (when (leb timeLimit now) BadTime verdict.Accepted)
 
 unfoldable pub judgeNew : ℕ → ℕ → ℕ → Verdict
 judgeNew now statistics idle = when (ltb longest statistics || ltb longest idle) BadSetting (when (leb timeLimit now) BadTime verdict.Accepted)
-
-unfoldable pub judgeNext : Timers → ℕ → NextMessage → Verdict
-judgeNext ts now message = when (not (keptAll ts)) BadState (when (leb timeLimit now || tooLate message) BadTime verdict.Accepted)
 
 unfoldable pub judgePeriod : Timers → ℕ → Verdict
 judgePeriod ts period = when (ltb longest period) BadSetting (when (not (keptAll ts)) BadState verdict.Accepted)
@@ -73,8 +65,7 @@ updateSndPeriod ts period =
     answer set.Refused (judgePeriod ts period)
     (set.Done (timers (timer period (ts .snd .last)) (ts .«full_ack») (ts .nak) (ts .exp) (ts .«exp_count») (ts .«peer_idle») (ts .statistics)))
 
--- the ACK, NAK and EXP periods are set, and no origin moves
-abbrev pub withPeriods : Timers → three.Periods → Timers
+abbrev pub withPeriods : Timers → Periods → Timers
 withPeriods ts p =
     timers (ts .snd) (timer (p .ack) (ts .«full_ack» .last)) (timer (p .nak) (ts .nak .last)) (timer (p .exp) (ts .exp .last)) (ts .«exp_count») (ts .«peer_idle») (ts .statistics)
 

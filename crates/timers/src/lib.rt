@@ -1,18 +1,13 @@
-// The timers of a sender: document 01, "Timers"; the Rust's time/mod.rs. Nanoseconds throughout; round-trip times are microseconds.
+// The timers of a sender, made and set: document 01, "Timers"; the Rust's time/mod.rs. Nanoseconds; round-trip times are microseconds.
 ghost use mathlib.Core.Path.{_≡_};
 ghost use Rattle.timers.specs.Timers.{keptAll, judge, judgeNew, judgePeriod, judgeRtt, begun, new, updateSndPeriod, updateRtt, resetExp};
-use from_rtt::calculate_periods;
+use periods::calculate_periods;
 use refusals::Refusal;
 use refusals::Verdict;
 use rtt::Rtt;
-use timer::Elapsed;
 use timer::Timer;
 
-mod checks;
-mod from_rtt;
-mod wake;
-
-// All timers of a connection, and how often EXP has expired since the peer was last heard.
+// All timers of a connection, and EXP's count: 1 when the peer was last heard, and one more whenever EXP has expired since.
 #[repr(C)]
 pub struct Timers {
     pub snd: Timer,
@@ -24,36 +19,9 @@ pub struct Timers {
     pub statistics: Timer,
 }
 
-// The periods that follow from a round-trip time.
-pub struct Periods {
-    pub ack: u64,
-    pub nak: u64,
-    pub exp: u64,
-}
-
-// When the host will bring its next message, if it knows.
-pub enum NextMessage {
-    Unknown,
-    At(u64),
-}
-
-// The timers that a check of their own has.
-pub enum Which {
-    Snd,
-    FullAck,
-    Nak,
-    Statistics,
-}
-
 // The timers made or set.
 pub enum TimersSet {
     Done(Timers),
-    Refused(Refusal),
-}
-
-// One of the timers checked: what it gives, and the timers after it.
-pub enum TimersChecked {
-    Done(Elapsed, Timers),
     Refused(Refusal),
 }
 
@@ -117,7 +85,7 @@ impl Timers {
     }
 
     // Refusals 3 and 4, which most calls share.
-    pub(crate) fn judge(self, now: u64) -> Verdict
+    pub fn judge(self, now: u64) -> Verdict
         ensures { λ r. ⌜ r ≡ judge self now ⌝ }
     {
         let late = refusals::when(

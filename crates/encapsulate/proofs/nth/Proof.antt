@@ -1,6 +1,5 @@
 -- `encapsulate::nth` meets its contract: none past the count, else what `cut` ensures.
 -- Assumes nothing.
-use native.Mathlib.Omega.{arith}
 use borrow.Author.Tests.{le-leb, lt-leb}
 use Rattle.encapsulate.specs.Split.{nth}
 use borrow.Author.Needs.{needs}

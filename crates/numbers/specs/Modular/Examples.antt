@@ -2,7 +2,6 @@
 -- number 26 .. Each counts up and wraps to 0."
 -- Assumes nothing.
 use mathlib.Core.Path.{_≡_, refl}
-use Prim.Native.Nat.{ℕ}
 use Rattle.numbers.specs.Modular.{seqs, msgs, plus, dist}
 
 pub record Examples : Type 0 where

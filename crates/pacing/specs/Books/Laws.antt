@@ -6,7 +6,7 @@
 use mathlib.Core.Path.{_≡_, refl}
 use mathlib.Core.Bool.{true, _&&_, and-eq-true-iff}
 use Prim.{Unit}
-use Prim.Native.Nat.{ℕ, _^_, _<_}
+use Prim.Native.Nat.{_^_, _<_}
 use borrow.Author.Tests.{ltb-true, lt-ltb}
 use Rattle.pacing.specs.declared.options.LiveBandwidthMode.{LiveBandwidthMode}
 use Rattle.pacing.specs.declared.Next.{Next}

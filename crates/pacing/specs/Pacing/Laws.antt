@@ -2,14 +2,12 @@
 --   Accepted s now p b, accepted   what is known of an input that no test refuses
 --   onInput-accepted               such an input is never refused
 --   input-due, input-silent        and then answered with a period exactly where an estimate is due
---   sndPeriod-held                 a period lies between 1 and 10^12
 --   moved-kept, after-kept         an accepted input keeps the book rules
 --   moved-room                     and what it adds finds room
 --   Moves, Ahead, after-ahead      after a first input and after an estimate, next lies past now, by at most 100,000 µs
---   after-settled                  after an accepted input no estimate is due
 -- Assumes nothing.
 use mathlib.Core.Path.{_≡_, refl}
-use mathlib.Core.Bool.{Bool, true, false, _||_, cond}
+use mathlib.Core.Bool.{Bool, true, false, cond}
 use mathlib.Mathlib.Data.Bool.Basic.{or-eq-false-eq-eq-false-and-eq-false as neither}
 use Prim.{Unit}
 use Prim.Native.Nat.{ℕ, _+_, _^_, _<_, _≤_}
@@ -23,8 +21,6 @@ use Rattle.pacing.specs.declared.SenderCongestionControl.{SenderCongesti
 use Rattle.pacing.specs.declared.Paced.the-variants.{Silent, Period}
 use Rattle.pacing.specs.Rate.{elapsed, estimate, passes}
 use Rattle.pacing.specs.Rate.Laws.{estimate-ranged, increment-ranged}
-use Rattle.pacing.specs.Period.{allowed}
-use Rattle.pacing.specs.Period.Laws.{period-held}
 use Rattle.pacing.specs.Books.{kept}
 use Rattle.pacing.specs.Books.Laws.{Kept, kept-facts, facts-kept}
 use Rattle.pacing.specs.Pacing.{due, since, countFull, estimated, movedAt, moved, added, after, sndPeriod, input, onInput}
@@ -43,10 +39,6 @@ Moves (At next) now = next ≤ now
 abbrev pub Ahead : ℕ → Next → Type 0
 Ahead now Unset = ⊥
 Ahead now (At next) = (now < next) × (next ≤ now + 100_000)
-
-ahead-settled : (now : ℕ) (n : Next) → Ahead now n → due n now ≡ false
-ahead-settled now Unset h = absurd h
-ahead-settled now (At next) h = lt-leb next now (h .0)
 
 abbrev Counts : SenderCongestionControl → ℕ → ℕ → Type 0
 Counts s p b = (s .packets .count ≡ p) × (s .bytes .count ≡ b)
@@ -131,17 +123,3 @@ module _ (s : SenderCongestionControl) (now p b : ℕ) where
       at : (n : Next) → Moves n now → Ahead now (movedAt n s now .next)
       at Unset h = omega arith
       at (At next) h = rw (le-leb next now h) (estimated-ahead s next now h)
-
-  pub after-settled : due (after s now p b .next) now ≡ false
-  unfolding after added moved movedAt
-  after-settled = at (s .next) refl
-    where
-      at : (n : Next) → s .next ≡ n → due (movedAt n s now .next) now ≡ false
-      at Unset e = lt-leb (now + 100_000) now (omega arith)
-      at (At next) e =
-          cond-by (λ (m : SenderCongestionControl). due (m .next) now ≡ false) (leb next now) (estimated s next now) s
-          (λ t. ahead-settled now (estimated s next now .next) (estimated-ahead s next now (leb-true next now t))) (λ t. rw e t)
-
-pub sndPeriod-held : (s : SenderCongestionControl) → (1 ≤ sndPeriod s) × (sndPeriod s ≤ 10 ^ 12)
-unfolding sndPeriod
-sndPeriod-held s = period-held (allowed (s .«bandwidth_mode») (s .bytes .mean)) (s .bytes .mean) (s .packets .mean)

@@ -1,13 +1,12 @@
 -- What a layer above uses of a round-trip time's range.
 --   inRange-ranged, ranged-inRange   the test decides the facts, both ways
---   start-inRange                    the one at the start is within its range
 -- Assumes nothing.
-use mathlib.Core.Path.{_≡_, refl}
+use mathlib.Core.Path.{_≡_}
 use mathlib.Core.Bool.{true, and-eq-true-iff}
 use lib.Dec.{leb}
 use borrow.Author.Tests.{leb-true, le-leb}
 use Rattle.rtt.specs.declared.Rtt.{Rtt}
-use Rattle.rtt.specs.Rtt.{start, inRange, Ranged}
+use Rattle.rtt.specs.Rtt.{inRange, Ranged}
 
 pub inRange-ranged : (r : Rtt) → inRange r ≡ true → Ranged r
 inRange-ranged r e =
@@ -16,6 +15,3 @@ inRange-ranged r e =
 
 pub ranged-inRange : (r : Rtt) → Ranged r → inRange r ≡ true
 ranged-inRange r h = simp (le-leb _ _ (h .mean), le-leb _ _ (h .variance))
-
-pub start-inRange : inRange start ≡ true
-start-inRange = refl

@@ -8,9 +8,9 @@ use mathlib.Core.Path.{_≡_, refl}
 use mathlib.Core.Bool.{Bool, _&&_, false, true}
 use mathlib.Core.List.{List, [], _∷_}
 use mathlib.Core.Option.{Option, none, some}
-use Prim.Native.Nat.{_<_, _^_, _≤_, suc, ℕ}
+use Prim.Native.Nat.{_<_, _^_, _≤_, suc, zero, ℕ}
 use lib.Dec.{leb, ltb}
-use lib.ListN.{drop, length, take}
+use lib.ListN.{drop, getD, length, take}
 use borrow.Author.Tests.{eq-eqb, eqb-true, le-leb, leb-true, lt-ltb, ltb-true}
 use Rattle.rtt.specs.declared.Rtt.{Rtt}
 use Rattle.pacing.specs.declared.SenderCongestionControl.{SenderCongestionControl}
@@ -83,14 +83,12 @@ and-both : (a b : Bool) → a ≡ true → b ≡ true → (a && b) ≡ true
 and-both true b p q = q
 and-both false b p q = p
 
--- the first of several tests, and the others
-head : (t : Bool) (ts : List Bool) → every (t ∷ ts) ≡ true → t ≡ true
+-- where all of the tests hold, the k-th does
+nth : (k : ℕ) (ts : List Bool) → every ts ≡ true → getD ts k true ≡ true
 unfolding every
-head t ts e = and-l t (every ts) e
-
-rest : (t : Bool) (ts : List Bool) → every (t ∷ ts) ≡ true → every ts ≡ true
-unfolding every
-rest t ts e = and-r t (every ts) e
+nth k [] e = refl
+nth zero (t ∷ ts) e = and-l t (every ts) e
+nth (suc k) (t ∷ ts) e = nth k ts (and-r t (every ts) e)
 
 on : (t : Bool) (ts : List Bool) → t ≡ true → every ts ≡ true → every (t ∷ ts) ≡ true
 unfolding every
@@ -130,18 +128,13 @@ module _ (t : Packet → Bool) (P : Packet → Type 0) where
 sent-facts : (c : Settings) (p : Packet) → sentKept c p ≡ true → Sent c p
 unfolding sentKept
 sent-facts c p e =
-    let r₁ = rest _ _ e in
-    let r₂ = rest _ _ r₁ in
-    let r₃ = rest _ _ r₂ in
-    let r₄ = rest _ _ r₃ in
-    let r₅ = rest _ _ r₄ in
     record {
-      time = ltb-true _ _ (head _ _ e);
-      message = ltb-true _ _ (head _ _ r₁);
-      len = leb-true _ _ (head _ _ r₂);
-      once = leb-true _ _ (head _ _ r₃);
-      most = leb-true _ _ (head _ _ r₄);
-      resend = ltb-true _ _ (head _ _ r₅);
+      time = ltb-true _ _ (nth 0 _ e);
+      message = ltb-true _ _ (nth 1 _ e);
+      len = leb-true _ _ (nth 2 _ e);
+      once = leb-true _ _ (nth 3 _ e);
+      most = leb-true _ _ (nth 4 _ e);
+      resend = ltb-true _ _ (nth 5 _ e);
     }
 
 facts-sent : (c : Settings) (p : Packet) → Sent c p → sentKept c p ≡ true
@@ -153,16 +146,12 @@ facts-sent c p f =
 unsent-facts : (c : Settings) (p : Packet) → unsentKept c p ≡ true → Unsent c p
 unfolding unsentKept
 unsent-facts c p e =
-    let r₁ = rest _ _ e in
-    let r₂ = rest _ _ r₁ in
-    let r₃ = rest _ _ r₂ in
-    let r₄ = rest _ _ r₃ in
     record {
-      time = ltb-true _ _ (head _ _ e);
-      message = ltb-true _ _ (head _ _ r₁);
-      len = leb-true _ _ (head _ _ r₂);
-      never = eqb-true _ _ (head _ _ r₃);
-      unset = eqb-true _ _ (head _ _ r₄);
+      time = ltb-true _ _ (nth 0 _ e);
+      message = ltb-true _ _ (nth 1 _ e);
+      len = leb-true _ _ (nth 2 _ e);
+      never = eqb-true _ _ (nth 3 _ e);
+      unset = eqb-true _ _ (nth 4 _ e);
     }
 
 facts-unsent : (c : Settings) (p : Packet) → Unsent c p → unsentKept c p ≡ true
@@ -185,39 +174,25 @@ facts-held c (some h) f = and-both (ltb (h .slot) (capacity c)) _ (lt-ltb _ _ (f
 pub kept-facts : (c : Settings) (s : Sender) → kept c s ≡ true → Kept c s
 unfolding kept
 kept-facts c s e =
-    let r₁ = rest _ _ e in
-    let r₂ = rest _ _ r₁ in
-    let r₃ = rest _ _ r₂ in
-    let r₄ = rest _ _ r₃ in
-    let r₅ = rest _ _ r₄ in
-    let r₆ = rest _ _ r₅ in
-    let r₇ = rest _ _ r₆ in
-    let r₈ = rest _ _ r₇ in
-    let r₉ = rest _ _ r₈ in
-    let r₁₀ = rest _ _ r₉ in
-    let r₁₁ = rest _ _ r₁₀ in
-    let r₁₂ = rest _ _ r₁₁ in
-    let r₁₃ = rest _ _ r₁₂ in
-    let r₁₄ = rest _ _ r₁₃ in
     record {
       good = record {
-        low = leb-true _ _ (head _ _ r₂);
-        high = leb-true _ _ (head _ _ r₃);
-        lost = ascends-facts _ _ _ (head _ _ r₄);
+        low = leb-true _ _ (nth 2 _ e);
+        high = leb-true _ _ (nth 3 _ e);
+        lost = ascends-facts _ _ _ (nth 4 _ e);
       };
-      fits = leb-true _ _ (head _ _ r₁);
-      old = all-facts (sentKept c) (Sent c) (sent-facts c) _ (head _ _ r₅);
-      new = all-facts (unsentKept c) (Unsent c) (unsent-facts c) _ (head _ _ r₆);
-      small = ltb-true _ _ (head _ _ r₇);
-      covers = leb-true _ _ (head _ _ r₈);
+      fits = leb-true _ _ (nth 1 _ e);
+      old = all-facts (sentKept c) (Sent c) (sent-facts c) _ (nth 5 _ e);
+      new = all-facts (unsentKept c) (Unsent c) (unsent-facts c) _ (nth 6 _ e);
+      small = ltb-true _ _ (nth 7 _ e);
+      covers = leb-true _ _ (nth 8 _ e);
       fields = record {
-        settings = head _ _ e;
-        pacing = head _ _ r₉;
-        least = leb-true _ _ (head _ _ r₁₀);
-        most = leb-true _ _ (head _ _ r₁₁);
-        rtt = head _ _ r₁₂;
-        messages = ltb-true _ _ (head _ _ r₁₃);
-        held = held-facts c (s .held) (head _ _ r₁₄);
+        settings = nth 0 _ e;
+        pacing = nth 9 _ e;
+        least = leb-true _ _ (nth 10 _ e);
+        most = leb-true _ _ (nth 11 _ e);
+        rtt = nth 12 _ e;
+        messages = ltb-true _ _ (nth 13 _ e);
+        held = held-facts c (s .held) (nth 14 _ e);
       };
     }
 

@@ -1,6 +1,6 @@
 -- What a late drop may take.
---   drops rs      how many of the records are drops
---   Overdue       a packet that is late, or of the message of the last late one before it
+--   isDrop, drops rs   how many of the records are drops
+--   Overdue c now ps i the packet at place i is late, or is of the message of the last late one before it, none between them late
 -- Assumes nothing.
 use mathlib.Core.Path.{_≡_}
 use mathlib.Core.List.{List, [], _∷_}
@@ -10,7 +10,6 @@ use Rattle.rules.specs.Records.{Action, ByLoss, ByTime, Drop, Kind, Send
 use Rattle.rules.specs.Sender.{Packet, nothing}
 use Rattle.rules.specs.Settings.{Settings, lateWindow}
 
--- how many of the records are drops
 abbrev pub isDrop : Kind → ℕ
 isDrop Send = 0
 isDrop ByTime = 0
@@ -23,7 +22,6 @@ abbrev pub drops : List Action → ℕ
 drops [] = 0
 drops (a ∷ rs) = isDrop (a .kind) + drops rs
 
--- the packet at place i is late, or is of the message of the last late one before it, none between them late
 pub data Overdue (c : Settings) (now : ℕ) (ps : List Packet) (i : ℕ) : Type 0 where
   itself : getD ps i nothing .time + lateWindow c < now → Overdue c now ps i
   following : (j : ℕ) → j < i → getD ps j nothing .time + lateWindow c < now

@@ -1,5 +1,5 @@
 -- No packet twice in a run.
---   isFlush         a record of the closing flush
+--   isFlush         a record of the closing flush: the one send of kind 1 that says retransmitted
 --   sentNumbers rs  the numbers that the records send, but by the flush
 --   Distinct xs     no number twice
 -- Assumes nothing.
@@ -10,7 +10,6 @@ use lib.Dec.{eqb}
 use Rattle.rules.specs.Promises.{On}
 use Rattle.rules.specs.Records.{Action, ByLoss, ByTime, Drop, Kind, Send, WaitAck, WaitInput, isSend}
 
--- the closing flush is the one send of kind 1 that says retransmitted
 unfoldable pub isFlush : Kind → ℕ → Bool
 isFlush Send flags = eqb (flags % 2) 1
 isFlush ByTime flags = false
@@ -19,7 +18,6 @@ isFlush Drop flags = false
 isFlush WaitInput flags = false
 isFlush WaitAck flags = false
 
--- the numbers that the records send, but by the flush
 unfoldable pub sentNumbers : List Action → List ℕ
 sentNumbers [] = []
 sentNumbers (a ∷ rs) = cond (eqb (isSend (a .kind)) 1 && not (isFlush (a .kind) (a .flags))) (a .number ∷ sentNumbers rs) (sentNumbers rs)

@@ -1,6 +1,7 @@
 -- The payloads in the store.
---   cuts, payloads   the payloads of a message, and all ever pushed, packet by packet
---   Holds            the store holds those of the buffered packets, each at its place
+--   cuts             the payloads of n packets of a message, from packet i on
+--   payloads         all payloads that accepted messages pushed, packet by packet: the k-th is that of the k-th packet ever pushed
+--   Holds            the store holds the payload of every buffered packet, at its place and of its length; ps are the payloads ever pushed
 -- Assumes nothing.
 use mathlib.Core.Path.{_≡_}
 use mathlib.Core.List.{List, [], _++_, _∷_}
@@ -13,12 +14,10 @@ use Rattle.rules.specs.Calls.{Call, ack, answer, message, nak, payload, 
 use Rattle.rules.specs.Sender.{Sender, end, packet}
 use Rattle.rules.specs.Settings.{Settings, placeOf, storeSize}
 
--- the payloads of n packets of a message, from packet i on
 unfoldable pub cuts : ℕ → List ℕ → ℕ → ℕ → List (List ℕ)
 cuts size bytes i zero = []
 cuts size bytes i (suc n) = take (lengthOf size (length bytes) i) (drop (startOf size i) bytes) ∷ cuts size bytes (suc i) n
 
--- all payloads that accepted messages pushed, packet by packet: the k-th is that of the k-th packet ever pushed
 unfoldable pub payloadsBy : Settings → Verdict → Call → List (List ℕ)
 payloadsBy c Accepted (message time now bytes) = cuts (c .size) bytes 0 (count (c .size) (length bytes))
 payloadsBy c Accepted (ack number full rtt) = []
@@ -31,7 +30,6 @@ unfoldable pub payloads : Settings → List Call → Sender → List (List ℕ)
 payloads c [] s = []
 payloads c (k ∷ ks) s = payloadsBy c (verdictOf c k s) k ++ payloads c ks (answer c k s .after)
 
--- the store holds the payload of every buffered packet, at its place and of its length; ps are the payloads ever pushed
 pub record Holds (c : Settings) (s : Sender) (store : List ℕ) (ps : List (List ℕ)) : Type 0 where
   pub pushes : length ps ≡ s .pushed
   pub big : storeSize c ≤ length store

@@ -1,6 +1,6 @@
 -- Every time moved by the same amount.
---   laterPacket, later   a packet, and a sender, with every time d later
---   laterAction          a record that shows a time d later
+--   laterPacket, later   a packet, and a sender, with every time d later; resendLater   a resend time, where there is one
+--   laterAction          a record with its time and its stamp d later; waits and drops show none
 -- Assumes nothing.
 use mathlib.Core.Bool.{cond}
 use mathlib.Core.List.{map}
@@ -10,7 +10,6 @@ use Rattle.encapsulate.specs.Header.{stamp}
 use Rattle.rules.specs.Records.{Action, isSend}
 use Rattle.rules.specs.Sender.{Packet, Sender, put}
 
--- Every time d later: a packet's time, and its resend time where it has one
 unfoldable pub resendLater : ℕ → ℕ → ℕ → ℕ
 resendLater d zero r = r
 resendLater d (suc n) r = r + d
@@ -28,7 +27,6 @@ laterPacket d p = record {
 unfoldable pub later : ℕ → Sender → Sender
 later d s = put s (map (laterPacket d) (s .packets)) (s .front) (s .next) (s .lost) (s .bytes)
 
--- a record with its time and its stamp d later; waits and drops show none
 unfoldable pub laterAction : ℕ → Action → Action
 laterAction d a =
     cond (eqb (isSend (a .kind)) 1)

@@ -1,13 +1,14 @@
 -- What the code and the layer above use of the timers.
 --   KeptAll ts           the book rules of all timers as facts
 --   kept-all, all-kept   the test decides them, both ways
---   accepted-kept, accepted-ranged   what a call that was not refused knows of its timers and of its round-trip time
+--   accepted-kept, accepted-timed, accepted-ranged   what a call that was not refused knows of its timers, its time and its round-trip time
 -- Assumes nothing.
 use mathlib.Core.Path.{_≡_}
 use mathlib.Core.Bool.{Bool, true, not, _&&_, and-eq-true-iff}
-use Prim.Native.Nat.{ℕ, _≤_}
-use borrow.Author.Tests.{leb-true, le-leb, not-false}
-use Rattle.refusals.specs.declared.Refusal.the-variants.{BadState, BadRtt}
+use Prim.Native.Nat.{ℕ, _≤_, _<_}
+use lib.Dec.{leb}
+use borrow.Author.Tests.{leb-true, leb-false, le-leb, not-false}
+use Rattle.refusals.specs.declared.Refusal.the-variants.{BadState, BadTime, BadRtt}
 use Rattle.refusals.specs.declared.Verdict.{Verdict}
 use Rattle.refusals.specs.declared.Verdict.the-variants.{Accepted}
 use Rattle.refusals.specs.Verdict.{when}
@@ -15,10 +16,10 @@ use Rattle.refusals.specs.Verdict.Laws.{when-accepted}
 use Rattle.rtt.specs.declared.Rtt.{Rtt}
 use Rattle.rtt.specs.Rtt.{inRange, Ranged}
 use Rattle.rtt.specs.Rtt.Laws.{inRange-ranged}
-use Rattle.timers.specs.declared.Timers.{Timers}
+use Rattle.timer.specs.Timer.{timeLimit, kept}
 use Rattle.timer.specs.Timer.Laws.{Kept, kept-facts, facts-kept}
-use Rattle.timer.specs.Timer.{kept}
-use Rattle.timers.specs.Timers.{keptAll, judgeRtt}
+use Rattle.timers.specs.declared.Timers.{Timers}
+use Rattle.timers.specs.Timers.{keptAll, judge, judgeRtt}
 
 pub record KeptAll (ts : Timers) : Type 0 where
   pub snd : Kept (ts .snd)
@@ -66,6 +67,12 @@ all-kept ts k =
 -- a call that was not refused for its timers has timers that are kept
 pub accepted-kept : (ts : Timers) (v : Verdict) → when (not (keptAll ts)) BadState v ≡ Accepted → KeptAll ts
 accepted-kept ts v e = kept-all ts (not-false _ (when-accepted (not (keptAll ts)) BadState v e .0))
+
+pub accepted-timed : (ts : Timers) (now : ℕ) → judge ts now ≡ Accepted → KeptAll ts × (now < timeLimit)
+unfolding judge
+accepted-timed ts now e =
+    let rest = when-accepted (not (keptAll ts)) BadState (when (leb timeLimit now) BadTime Accepted) e .1 in
+    (accepted-kept ts _ e, leb-false timeLimit now (when-accepted (leb timeLimit now) BadTime Accepted rest .0))
 
 pub accepted-ranged : (ts : Timers) (rtt : Rtt) → judgeRtt ts rtt ≡ Accepted → Ranged rtt
 unfolding judgeRtt

@@ -4,7 +4,7 @@ use mathlib.Core.Path.{_∙_, sym}
 use native.Mathlib.Omega.{arith}
 use borrow.Author.Tests.{not-false}
 use Rattle.timer.specs.Timer.{nextInstant}
-use Rattle.timer.specs.Timer.Laws.{Kept, kept-facts}
+use Rattle.timer.specs.Timer.Laws.{kept-facts}
 use borrow.Author.Needs.{needs}
 use Rattle.timer.proofs.Timer.next_instant.Statement.{statement}
 use Rattle.timer.proofs.Timer.next_instant.Tie as tie
