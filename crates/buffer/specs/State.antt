@@ -8,6 +8,7 @@
 --   view st          the buffered packets
 --   lostOf st        the loss list, as it stands in its area: farthest first
 --   put b ..         other places, front, sent count, loss count and byte count
+--   withOthers b ..  another RTT, message number, expected full number and flushed packet
 -- Assumes nothing.
 pub mod Facts
 pub mod Fresh
@@ -17,15 +18,18 @@ pub mod View
 use mathlib.Core.List.{List, map}
 use Prim.Native.Nat.{ℕ, zero, suc}
 use lib.ListN.{take}
+use Rattle.numbers.specs.declared.MsgNumber.{MsgNumber}
 use Rattle.encapsulate.specs.declared.Place.{Place}
 use Rattle.encapsulate.specs.declared.Place.the-variants.{First, Middle, Last, Only}
 use Rattle.ring.specs.declared.Entry.{Entry}
 use Rattle.ring.specs.declared.Ring.{Ring}
 use Rattle.ring.specs.Ring.{packets}
+use Rattle.rtt.specs.declared.Rtt.{Rtt}
 use Rattle.rtt.specs.Rtt.{start}
 use Rattle.rules.specs.Settings as rules
 use Rattle.rules.specs.Sender.{Packet}
 use Rattle.buffer.specs.declared.Settings.{Settings}
+use Rattle.buffer.specs.declared.Flushed.{Flushed}
 use Rattle.buffer.specs.declared.Flushed.the-variants.{Nothing}
 use Rattle.buffer.specs.declared.SendBuffer.{SendBuffer}
 
@@ -84,6 +88,19 @@ put b ring front sent lost bytes = record {
   message = b .message;
   expected = b .expected;
   flushed = b .flushed;
+}
+
+abbrev pub withOthers : SendBuffer → Rtt → MsgNumber → ℕ → Flushed → SendBuffer
+withOthers b rtt message expected flushed = record {
+  ring = b .ring;
+  front = b .front;
+  sent = b .sent;
+  lost = b .lost;
+  bytes = b .bytes;
+  rtt = rtt;
+  message = message;
+  expected = expected;
+  flushed = flushed;
 }
 
 abbrev pub fresh : rules.Settings → SendBuffer

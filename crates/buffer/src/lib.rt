@@ -8,7 +8,7 @@ ghost use Rattle.ring.specs.Ring.Laws.{Placed};
 ghost use Rattle.rules.specs.Settings.{capacity, lateWindow};
 ghost use Rattle.rules.specs.Sender.{wireSizes};
 ghost use Rattle.rules.specs.Reports.{timeOf};
-ghost use Rattle.buffer.specs.State.{settingsOf, packetsOf, put, fresh};
+ghost use Rattle.buffer.specs.State.{settingsOf, packetsOf, put, withOthers, fresh};
 ghost use Rattle.buffer.specs.State.Reports.{isFlushed, hasPacketsToSend};
 ghost use Rattle.buffer.specs.Removal.Laws.{Removable, Removed, Weighable};
 use numbers::MsgNumber;
@@ -115,6 +115,31 @@ impl SendBuffer {
             rtt,
             message,
             expected: self.expected,
+            flushed,
+        }
+    }
+
+    // The same packets and counts with other values of what no packet shows.
+    pub fn with_others(
+        self,
+        rtt: Rtt,
+        message: MsgNumber,
+        expected: u64,
+        flushed: Flushed,
+    ) -> SendBuffer
+        ensures { λ r. ⌜ r ≡ withOthers self rtt message expected flushed ⌝ }
+    {
+        let ring = self.ring;
+        let front = self.front;
+        SendBuffer {
+            ring,
+            front,
+            sent: self.sent,
+            lost: self.lost,
+            bytes: self.bytes,
+            rtt,
+            message,
+            expected,
             flushed,
         }
     }

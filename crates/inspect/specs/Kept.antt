@@ -12,6 +12,7 @@
 --   kept c st             the book rules
 -- The numbers of the packets are consecutive by what the books are. Pacing and the timers are kept apart and have their own checks.
 -- Assumes nothing.
+pub mod Entries
 pub mod Laws
 pub mod Stands
 use mathlib.Core.Bool.{Bool, true, false, _&&_}

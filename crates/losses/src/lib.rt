@@ -50,7 +50,7 @@ pub fn enter(list: &mut [u32], len: usize, front: SeqNumber, first: SeqNumber, c
     len + by
 }
 
-// The number nearest the front, the last of the list, which is one shorter without it.
+// The number nearest the front: the last of the list, which is one shorter without it.
 pub fn nearest(list: &[u32], len: usize) -> SeqNumber
     requires { ⌜ Filled len (now list) ⌝ }
     ensures { λ r. ⌜ r .0 ≡ getD (now (list .entry)) (len - 1) 0 ⌝ }
@@ -58,7 +58,7 @@ pub fn nearest(list: &[u32], len: usize) -> SeqNumber
     SeqNumber(list[len - 1])
 }
 
-// Removes the numbers nearer the front than `x`, which stand at the end. The answer is the list's new length.
+// How long the list is without the numbers nearer the front than `x`: they stand at its end, and the area stays as it is.
 pub fn remove_below(list: &[u32], len: usize, front: SeqNumber, x: SeqNumber) -> usize
     requires { ⌜ len ≤ length (now list) ⌝ }
     ensures { λ r. ⌜ r ≡ staying (dist seqs (front .0)) (dist seqs (front .0) (x .0)) len (now (list .entry)) ⌝ }

@@ -3,6 +3,7 @@
 --   Numbered k n    n is the number of document 01's "Action record": "kind (1 Send, 2 resend by time, 3 resend by loss, 4 Drop, 5 wait
 --                   input, 6 wait ACK)"
 --   actionOf r      the rules' action
+--   plain k ..      the record of a drop or a wait, with a number, a word and a stamp: "Unused fields are 0"
 -- Assumes nothing.
 pub mod Laws
 use mathlib.Core.Path.{_≡_}
@@ -27,3 +28,6 @@ pub record Numbered (k : Kind) (n : ℕ) : Type 0 where
 abbrev pub actionOf : Record → rules.Action
 actionOf r =
     record { kind = kindOf (r .kind); flags = r .flags; len = r .len; number = r .number; word = r .word; stamp = r .stamp; time = r .time }
+
+abbrev pub plain : Kind → ℕ → ℕ → ℕ → Record
+plain k number word stamp = record { kind = k; flags = 0; len = 0; number = number; word = word; stamp = stamp; time = 0 }

@@ -1,10 +1,10 @@
 // The action records that a run writes: document 01, "Action record". Made as 24 bytes by value and copied into the lent list.
 ghost use mathlib.Core.Path.{_≡_};
-ghost use Prim.Native.Nat.{_+_, _*_, _≤_, _<_};
+ghost use Prim.Native.Nat.{_+_, _*_, _≤_};
 ghost use lib.ListN.{length};
 ghost use lib.Seq.{paste};
 ghost use Rattle.rules.specs.Records.{encode};
-ghost use Rattle.records.specs.Record.{Numbered, actionOf};
+ghost use Rattle.records.specs.Record.{Numbered, actionOf, plain};
 
 // What a record tells the host to do.
 pub enum Kind {
@@ -16,7 +16,8 @@ pub enum Kind {
     WaitForAck,
 }
 
-// One record. Fields that its kind does not use are 0.
+// One record, its fields in document 01's order; `word` is the message, the exclusive drop end or the unacknowledged count. Fields that its kind
+// does not use are 0.
 pub struct Record {
     pub kind: Kind,
     pub flags: u8,
@@ -47,6 +48,21 @@ impl Kind {
 }
 
 impl Record {
+    // The record of a drop or a wait: what only the record of a sending has is 0.
+    pub fn plain(kind: Kind, number: u32, word: u32, stamp: u32) -> Record
+        ensures { λ r. ⌜ r ≡ plain kind number word stamp ⌝ }
+    {
+        Record {
+            kind,
+            flags: 0,
+            len: 0,
+            number,
+            word,
+            stamp,
+            time: 0,
+        }
+    }
+
     // The record's bytes, little-endian.
     pub fn bytes(self) -> [u8; 24]
         ensures { λ r. ⌜ r ≡ encode (actionOf self) ⌝ }

@@ -2,25 +2,16 @@
 -- in the area's first elements, has room because the whole list has, and leaves the elements behind as they first were.
 -- Assumes nothing.
 use mathlib.Core.Path.{_≡_, refl, sym, ap, _∙_}
-use mathlib.Core.List.{List, _++_}
-use Prim.Native.Nat.{ℕ, _+_, _-_, _*_, _≤_, _<_}
+use mathlib.Core.List.{List}
+use Prim.Native.Nat.{ℕ, _+_, _*_, _≤_, _<_}
 use native.Mathlib.Numerals.{add-one}
 use native.Mathlib.Omega.{arith}
-use lib.ListN.{length, take, drop, getD, take-append-drop}
-use lib.Seq.{drop-append-add, drop-drop, length-take-le}
+use lib.ListN.{length, take, getD, take-append-drop}
+use lib.Seq.{length-take-le}
 use Rattle.losses.specs.LossList.{over}
-use Rattle.losses.specs.LossList.Laws.{Fits, Left, take-over, length-over}
+use Rattle.losses.specs.LossList.Laws.{Fits, Left, take-over, length-over, over-over}
 use Rattle.report.specs.Report.{enterRun}
 use Rattle.report.specs.Report.Laws.{enteredTo, Readable, entered-longest}
-
-over-over : (xs ys e : List ℕ) → length xs ≤ length ys → over ys (over xs e) ≡ over ys e
-over-over xs ys e h =
-    let split : length xs + (length ys - length xs) ≡ length ys = omega arith in
-    ap (λ (l : List ℕ). ys ++ l)
-    (ap (λ (n : ℕ). drop n (over xs e)) (sym split)
-    ∙ drop-append-add xs (drop (length xs) e) (length ys - length xs)
-    ∙ drop-drop (length ys - length xs) (length xs) e
-    ∙ ap (λ (n : ℕ). drop n e) split)
 
 -- of the first n elements of e and the first count runs of ws, i are entered: the list has m entries, in the area l
 pub record Entering (f : ℕ) (ws e : List ℕ) (n count m i : ℕ) (l : List ℕ) : Type 0 where

@@ -2,7 +2,7 @@
 ghost use mathlib.Core.Path.{_≡_};
 ghost use lib.ListN.{take};
 ghost use Rattle.losses.specs.LossList.Laws.{Fits, Left};
-ghost use Rattle.report.specs.Report.{withLost, enterRun, left, add};
+ghost use Rattle.report.specs.Report.{enterRun, left, add};
 ghost use Rattle.report.specs.Report.Laws.{enteredTo, Readable, Reportable};
 use buffer::SendBuffer;
 use numbers::SeqNumber;
@@ -11,28 +11,6 @@ use numbers::SeqNumber;
 pub struct Reported {
     pub buffer: SendBuffer,
     pub runs: usize,
-}
-
-// The same books with another length of the loss list.
-fn with_lost(b: SendBuffer, lost: usize) -> SendBuffer
-    ensures { λ r. ⌜ r ≡ withLost b lost ⌝ }
-{
-    let ring = b.ring;
-    let front = b.front;
-    let rtt = b.rtt;
-    let message = b.message;
-    let flushed = b.flushed;
-    SendBuffer {
-        ring,
-        front,
-        sent: b.sent,
-        lost,
-        bytes: b.bytes,
-        rtt,
-        message,
-        expected: b.expected,
-        flushed,
-    }
 }
 
 // Enters the numbers of a run into the loss list where they are Added. The answer is the list's new length.
@@ -79,7 +57,7 @@ pub fn add_to_loss_list(b: SendBuffer, words: &[u32], lost: &mut [u32], out: &mu
     let runs = words::runs::write_runs(words, front, b.sent, out);
     let n = enter_runs(out, runs, front, lost, b.lost);
     Reported {
-        buffer: with_lost(b, n),
+        buffer: b.put(b.ring, front, b.sent, n, b.bytes),
         runs,
     }
 }

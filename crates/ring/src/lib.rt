@@ -1,10 +1,9 @@
 // The buffered packets in a lent area: a ring of entries, six words each, in place of the Rust's `VecDeque<SendBufferEntry>`. Document 01,
 // "What must change shape". The buffer above checks its books, and only then calls these.
 ghost use mathlib.Core.Path.{_≡_};
-ghost use mathlib.Core.Bool.{_&&_};
 ghost use Prim.Native.Nat.{_+_, _*_, _≤_, _<_};
 ghost use lib.ListN.{length};
-ghost use Rattle.ring.specs.Entry.{readE, writeE};
+ghost use Rattle.ring.specs.Entry.{wordOf, readE, writeE};
 ghost use Rattle.ring.specs.Ring.{wrapOf, slotOf, pushed, removed, placed};
 ghost use Rattle.ring.specs.Ring.Laws.{Placed};
 
@@ -37,18 +36,25 @@ fn wrap(cap: usize, sum: usize) -> usize
     if sum < cap { sum } else { sum - cap }
 }
 
+// Word `j` of the entry in `slot`.
+fn word(area: &[u64], slot: usize, j: usize) -> u64
+    requires { ⌜ (slot < 8192) × (slot * 6 + 6 ≤ length (now area)) × (j < 6) ⌝ }
+    ensures { λ r. ⌜ r ≡ wordOf (now (area .entry)) slot j ⌝ }
+{
+    area[slot * WIDTH + j]
+}
+
 fn get(area: &[u64], slot: usize) -> Entry
     requires { ⌜ (slot < 8192) × (slot * 6 + 6 ≤ length (now area)) ⌝ }
     ensures { λ r. ⌜ r ≡ readE (now (area .entry)) slot ⌝ }
 {
-    let at = slot * WIDTH;
     Entry {
-        time: area[at],
-        message: area[at + 1],
-        place: area[at + 2],
-        len: area[at + 3],
-        count: area[at + 4],
-        resend: area[at + 5],
+        time: word(area, slot, 0),
+        message: word(area, slot, 1),
+        place: word(area, slot, 2),
+        len: word(area, slot, 3),
+        count: word(area, slot, 4),
+        resend: word(area, slot, 5),
     }
 }
 

@@ -6,6 +6,7 @@
 -- Assumes nothing.
 pub mod Going
 pub mod Laws
+pub mod Loop
 pub mod Turns
 use mathlib.Core.Bool.{Bool, cond}
 use mathlib.Core.List.{List}

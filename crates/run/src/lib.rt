@@ -1,14 +1,18 @@
 // The run: document 01, "Run"; the Rust's `next_snd_actions` with its `SenderAlgorithmIterator`. The crate choice says which rule applies, the
 // crate sending does what it says, and here they are done one after the other.
 ghost use mathlib.Core.Path.{_≡_};
-ghost use Prim.Native.Nat.{_+_, _*_, _≤_, _<_, _-_};
-ghost use lib.ListN.{length};
+ghost use Prim.Native.Nat.{_-_};
 ghost use Rattle.buffer.specs.State.{settingsOf, state};
 ghost use Rattle.run.specs.Run.{world, run};
 ghost use Rattle.run.specs.Run.Turns.{Turning, Done, Swept, Runnable};
 use buffer::SendBuffer;
 use buffer::Settings;
 use choice::Rule;
+use sending::Written;
+use sending::leaving;
+use sending::resend;
+use sending::unsent;
+use sending::waits;
 
 // The books after a run, how many records it wrote, and the budget that is left.
 pub struct Ran {
@@ -17,21 +21,16 @@ pub struct Ran {
     pub left: u32,
 }
 
-// The books after a turn, how many records there are then, and whether it ends the run.
+// What a turn left, and whether it ends the run.
 struct Step {
-    buffer: SendBuffer,
-    count: usize,
+    written: Written,
     ends: bool,
 }
 
-fn progress(buffer: SendBuffer, count: usize, ends: bool) -> Step
-    ensures { λ r. ⌜ r ≡ record { buffer = buffer; count = count; ends = ends } ⌝ }
+fn turned(written: Written, ends: bool) -> Step
+    ensures { λ r. ⌜ r ≡ record { written = written; ends = ends } ⌝ }
 {
-    Step {
-        buffer,
-        count,
-        ends,
-    }
+    Step { written, ends }
 }
 
 // The first of rules 2 to 7 that applies.
@@ -46,33 +45,21 @@ fn turn(
     n: usize,
 ) -> Step
     requires { ⌜ Turning (settingsOf c) «ts_now» (state b (now ring) (now lost)) n (now out) ⌝ }
-    ensures { λ r. ⌜ Done (settingsOf c) «ts_now» draining (state b (now (ring .entry)) (now (lost .entry))) n (now (out .entry)) (state (r .buffer) (now (ring .exit)) (now (lost .entry))) (r .count) (r .ends) (now (out .exit)) ⌝ }
+    ensures { λ r. ⌜ Done (settingsOf c) «ts_now» draining (state b (now (ring .entry)) (now (lost .entry))) n (now (out .entry)) (state (r .written .buffer) (now (ring .exit)) (now (lost .entry))) (r .written .count) (r .ends) (now (out .exit)) ⌝ }
 {
     match choice::first_rule(b, c, ts_now, draining, ring) {
-        Rule::Loss => {
-            let left = sending::send_next_lost_packet(b, ts_now, ring, lost, out, n);
-            progress(left, n + 1, false)
-        }
-        Rule::Due(i) => {
-            let left = sending::send_next_rto_packet(b, ts_now, i, ring, out, n);
-            progress(left, n + 1, false)
-        }
-        Rule::Window => {
-            sending::wait_for_ack(b, out, n);
-            progress(b, n + 1, true)
-        }
-        Rule::Unsent => {
-            let w = sending::send_unsent(b, ts_now, ring, out, n);
-            progress(w.buffer, w.count, false)
-        }
-        Rule::Flush => {
-            let left = sending::flush_on_close(b, c, ring, lost, out, n);
-            progress(left, n + 1, false)
-        }
-        Rule::Input => {
-            sending::wait_for_input(b, out, n);
-            progress(b, n + 1, true)
-        }
+        Rule::Loss => turned(
+            resend::send_next_lost_packet(b, ts_now, ring, lost, out, n),
+            false,
+        ),
+        Rule::Due(i) => turned(
+            resend::send_next_rto_packet(b, ts_now, i, ring, out, n),
+            false,
+        ),
+        Rule::Window => turned(waits::wait_for_ack(b, out, n), true),
+        Rule::Unsent => turned(unsent::send_unsent(b, ts_now, ring, out, n), false),
+        Rule::Flush => turned(leaving::flush_on_close(b, c, ring, lost, out, n), false),
+        Rule::Input => turned(waits::wait_for_input(b, out, n), true),
     }
 }
 
@@ -101,16 +88,18 @@ fn sweep(
     ring: &[u64],
     lost: &[u32],
     out: &mut [u8],
-) -> Step
+) -> Written
     requires { ⌜ Turning (settingsOf c) «ts_now» (state b (now ring) (now lost)) 0 (now out) ⌝ }
     ensures { λ r. ⌜ Swept (settingsOf c) «ts_now» (state b (now (ring .entry)) (now (lost .entry))) (now (out .entry)) (state (r .buffer) (now (ring .entry)) (now (lost .entry))) (r .count) (now (out .exit)) ⌝ }
 {
     let k = choice::late_packets(b, c, ts_now, ring);
     if k < 1 {
-        return progress(b, 0, false);
+        return Written {
+            buffer: b,
+            count: 0,
+        };
     }
-    let left = sending::drop_too_late_packets(b, k, lost, out, 0);
-    progress(left, 1, false)
+    leaving::drop_too_late_packets(b, k, lost, out, 0)
 }
 
 // A run: what to send, to drop and to wait for, as records of 24 bytes in `out`. While budget remains, the first rule that applies.
@@ -140,12 +129,13 @@ pub fn next_snd_actions(
             break n;
         }
         let t = turn(here, c, ts_now, draining, ring, lost, out, n);
-        here = t.buffer;
+        let w = t.written;
+        here = w.buffer;
         if t.ends {
-            break t.count;
+            break w.count;
         }
-        left = less(left, t.count - n);
-        n = t.count;
+        left = less(left, w.count - n);
+        n = w.count;
     };
     Ran {
         buffer: here,

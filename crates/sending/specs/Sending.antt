@@ -7,11 +7,12 @@
 --   sentAs            packet i is sent
 --   nearest, popped   the number on the loss list nearest the front, the last there; the list without it
 --   written           records into the list, "24 bytes" each: "Bytes after the last record stay."
---   Acted             the code did what a turn does
+--   Acted, Acts       the code did what a turn does
 -- Assumes nothing.
 pub mod Laws
 pub mod Rules
 pub mod Stands
+pub mod Unsent
 use mathlib.Core.Path.{_≡_}
 use mathlib.Core.Bool.{Bool, true, false, _&&_, cond}
 use mathlib.Core.List.{List, [], _∷_, _++_}
@@ -31,8 +32,9 @@ use Rattle.rules.specs.Records.{Kind, Send, ByTime, ByLoss, Action, encode, sen
 use Rattle.rules.specs.Run.{wait}
 use Rattle.buffer.specs.declared.SendBuffer.{SendBuffer}
 use Rattle.buffer.specs.declared.Flushed.the-variants.{Held}
-use Rattle.buffer.specs.State.{State, state, view, put}
+use Rattle.buffer.specs.State.{State, state, view, put, withOthers}
 use Rattle.buffer.specs.Removal.{removed}
+use Rattle.sending.specs.declared.Written.{Written}
 
 abbrev pub baseOf : Rtt → ℕ
 baseOf r = r .mean + 4 * r .variance + 20_000
@@ -73,7 +75,7 @@ dropped k st = record {
   ends = false;
 }
 
--- number i is sent, as kind k; so many packets are sent then
+-- packet i is sent, as kind k; `sent` packets are sent then
 unfoldable pub sentAs : Kind → ℕ → ℕ → ℕ → State → Turned
 sentAs k now i sent st =
     let b = st .books in
@@ -124,17 +126,7 @@ unsentTurn now st =
 
 -- 6. "Draining with one packet buffered: send and remove it.": the byte count goes down, and the payload is held
 abbrev pub holding : SeqNumber → ℕ → ℕ → SendBuffer → SendBuffer
-holding number slot len r = record {
-  ring = r .ring;
-  front = r .front;
-  sent = r .sent;
-  lost = r .lost;
-  bytes = r .bytes;
-  rtt = r .rtt;
-  message = r .message;
-  expected = r .expected;
-  flushed = Held number slot len;
-}
+holding number slot len b = withOthers b (b .rtt) (b .message) (b .expected) (Held number slot len)
 
 unfoldable pub flushTurn : Settings → State → Turned
 flushTurn c st =
@@ -161,5 +153,5 @@ pub record Acted (tn : State → Turned) (before : State) (n : ℕ) (out : List 
   pub list : left ≡ written n (tn before .records) out
 
 -- the same of code that does not see the loss list's area
-pub record Acts (tn : State → Turned) (b : SendBuffer) (ring : List ℕ) (n : ℕ) (out : List ℕ) (r : SendBuffer) (words : List ℕ) (m : ℕ) (left : List ℕ) : Type 0 where
-  pub is : (lost : List ℕ) → Acted tn (state b ring lost) n out (state r words lost) m left
+pub record Acts (tn : State → Turned) (b : SendBuffer) (ring : List ℕ) (n : ℕ) (out : List ℕ) (w : Written) (words left : List ℕ) : Type 0 where
+  pub is : (lost : List ℕ) → Acted tn (state b ring lost) n out (state (w .buffer) words lost) (w .count) left

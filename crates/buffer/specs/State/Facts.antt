@@ -1,14 +1,17 @@
--- What is known of the numbers of books that stand for a sender which keeps the book rules: the bounds by which the code neither wraps nor reads beyond an area.
+-- What is known of the numbers of books that stand for a sender which keeps the book rules: the bounds by which the code neither wraps nor reads
+-- beyond an area.
 --   Ranged c          the settings are in their ranges
 --   Facts c st        the kept numbers, and the areas
 --   Entered c e       an entry
 --   Readable c r ring a ring whose entries are such
---   stands-facts, stands-readable, stands-entry, stands-sent, stands-unsent, stands-covers   all this holds of books that stand for a sender that keeps the book rules
+--   range-facts       settings that are tested are in their ranges
+--   stands-facts, stands-readable, stands-entry   all this holds of such books
+--   stands-sent, stands-unsent, stands-covers     so do the rules of a sent packet and of an unsent one; the byte count covers the wire sizes
 -- Assumes nothing.
-use mathlib.Core.Path.{_≡_, refl, sym, ap, _∙_}
-use mathlib.Core.Bool.{Bool, true, _&&_, and-eq-true-iff}
-use mathlib.Core.List.{List, [], _∷_}
-use Prim.Native.Nat.{ℕ, zero, suc, _+_, _-_, _^_, _≤_, _<_}
+use mathlib.Core.Path.{_≡_, sym, ap, _∙_}
+use mathlib.Core.Bool.{true, and-eq-true-iff}
+use mathlib.Core.List.{List}
+use Prim.Native.Nat.{ℕ, _+_, _-_, _^_, _≤_, _<_}
 use native.Mathlib.Decide.{decLt}
 use native.Mathlib.Omega.{arith}
 use lib.Dec.{ltb, leb}
@@ -26,11 +29,11 @@ use Rattle.losses.specs.LossList.Stands.Books.{ascends-few}
 use Rattle.rules.specs.Numbers.Laws.{wire-below}
 use Rattle.rules.specs.Settings.{Settings, inRange, capacity}
 use Rattle.rules.specs.Sender.{Packet, Sender, sentOf, nothing, wireSizes}
-use Rattle.rules.specs.Books.Laws.{Kept, Sent, Unsent, All}
+use Rattle.rules.specs.Books.Laws.{Kept, Sent, Unsent}
 use Rattle.rules.proofs.Packets.{all-at, sizes-drop}
-use Rattle.buffer.specs.State.{State, packetOf, packetsOf, view, lostOf}
+use Rattle.buffer.specs.State.{State, packetOf, packetsOf, lostOf}
 use Rattle.buffer.specs.State.View.{packets-length, packets-at}
-use Rattle.buffer.specs.State.Stands.{Stands, Ready}
+use Rattle.buffer.specs.State.Stands.{Stands}
 
 pub record Ranged (c : Settings) : Type 0 where
   pub first : c .first < 2 ^ 31

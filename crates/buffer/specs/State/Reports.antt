@@ -5,9 +5,9 @@
 --   flushed-is, packets-is, sends-is, .. what books answer that stand for a sender is what the sender does
 -- Assumes nothing.
 use mathlib.Core.Path.{_≡_, refl, sym, ap, _∙_}
-use mathlib.Core.Bool.{Bool, true, false, _&&_, _||_, not}
+use mathlib.Core.Bool.{Bool, _&&_, _||_, not}
 use mathlib.Core.List.{List, [], _∷_}
-use Prim.Native.Nat.{ℕ, zero, suc, _+_, _-_, _≤_, _<_}
+use Prim.Native.Nat.{ℕ, suc, _+_, _-_, _≤_, _<_}
 use native.Mathlib.Decide.{decLt}
 use native.Mathlib.Omega.{arith}
 use lib.Dec.{ltb, eqb}
@@ -17,7 +17,7 @@ use Rattle.ring.specs.declared.Ring.{Ring}
 use Rattle.ring.specs.Entry.{readE}
 use Rattle.ring.specs.Ring.{slotOf}
 use Rattle.rules.specs.Settings.{Settings}
-use Rattle.rules.specs.Sender.{Packet, Sender, nothing, end}
+use Rattle.rules.specs.Sender.{Packet, Sender, nothing}
 use Rattle.rules.specs.Reports as rules
 use Rattle.buffer.specs.declared.SendBuffer.{SendBuffer}
 use Rattle.buffer.specs.State.{State, packetOf, packetsOf, view}

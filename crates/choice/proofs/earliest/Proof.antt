@@ -13,7 +13,6 @@ use Rattle.choice.specs.Choice.Laws.{orElse, due-start, due-nearer, due-
 use Rattle.choice.specs.Choice.Laws as laws
 use Rattle.choice.proofs.earliest.Statement.{statement}
 use Rattle.choice.proofs.earliest.Tie as tie
-use Rattle.choice.proofs.earliest.Reads as reads
 
 abbrev Inv-loop : tie.InvT-loop
 Inv-loop ts-now ring at sent before₀ found₀ i₀ before found i =

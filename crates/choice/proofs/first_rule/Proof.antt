@@ -6,7 +6,6 @@ use borrow.Author.Needs.{needs}
 use Rattle.choice.specs.Choice.Laws.{optionOf, rule-loss, rule-due, rule-rest}
 use Rattle.choice.proofs.first_rule.Statement.{statement}
 use Rattle.choice.proofs.first_rule.Tie as tie
-use Rattle.choice.proofs.first_rule.Reads as reads
 
 returns : tie.Need-returns
 returns c = rule-loss _ _ _ _ _ (c .if1 .taken)

@@ -3,7 +3,6 @@
 use borrow.Author.Needs.{needs}
 use Rattle.choice.proofs.is_late.Statement.{statement}
 use Rattle.choice.proofs.is_late.Tie as tie
-use Rattle.choice.proofs.is_late.Reads as reads
 
 late-window-requires : tie.Need-late-window-requires
 late-window-requires c κs = search needs

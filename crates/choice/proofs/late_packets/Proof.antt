@@ -11,7 +11,6 @@ use Rattle.buffer.specs.State.{settingsOf, packetsOf}
 use Rattle.choice.specs.Choice.Laws.{late-none, late-front, late-start, late-go, late-stop, late-end}
 use Rattle.choice.proofs.late_packets.Statement.{statement}
 use Rattle.choice.proofs.late_packets.Tie as tie
-use Rattle.choice.proofs.late_packets.Reads as reads
 
 abbrev Inv-loop : tie.InvT-loop
 Inv-loop c ts-now ring at message₀ i₀ message i =

@@ -6,7 +6,6 @@ use borrow.Author.Tests.{lt-ltb, le-ltb}
 use Rattle.choice.specs.Choice.Laws.{rest-window, rest-unsent, rest-flush, rest-input}
 use Rattle.choice.proofs.rule_of_the_rest.Statement.{statement}
 use Rattle.choice.proofs.rule_of_the_rest.Tie as tie
-use Rattle.choice.proofs.rule_of_the_rest.Reads as reads
 
 flow-window-exceeded-requires : tie.Need-flow-window-exceeded-requires
 flow-window-exceeded-requires c κs = search needs

@@ -1,19 +1,19 @@
 -- What the code that chooses uses, on plain lists.
 --   optionOf d                  a packet that is due, or none
 --   Timed b ring                what `earliest` asks for: the ring lies in its area, and the sent packets are buffered
---   late-none, late-start, late-go, late-stop, late-end    rule 1's count, packet by packet
---   found, due-start, due-nearer, due-not, due-end         rule 3's choice, packet by packet
+--   late-none, late-front, late-start, late-go, late-stop, late-end    rule 1's count, packet by packet
+--   orElse, found, due-start, due-nearer, due-not, due-end         rule 3's choice, packet by packet
 --   rest-window, rest-unsent, rest-flush, rest-input, rule-loss, rule-due, rule-rest   the first that applies, by the tests that the code makes
 -- Assumes nothing.
 use mathlib.Core.Path.{_≡_, refl, sym, ap, _∙_}
-use mathlib.Core.Bool.{Bool, true, false, _||_, _&&_, not, cond}
+use mathlib.Core.Bool.{Bool, true, false, _||_, _&&_, cond}
 use mathlib.Core.List.{List, [], _∷_}
 use mathlib.Core.Option.{Option, none, some}
 use Prim.Native.Nat.{ℕ, zero, suc, _+_, _≤_, _<_}
 use native.Mathlib.Numerals.{add-one}
 use native.Mathlib.Omega.{arith}
 use lib.Dec.{ltb, eqb}
-use lib.ListN.{length, getD, take, drop, drop-of-length-le, length-take}
+use lib.ListN.{length, take, drop, drop-of-length-le, length-take}
 use lib.Seq.{drop-cons, getD-take}
 use borrow.Author.Tests.{lt-ltb, le-ltb, eqb-true}
 use Rattle.ring.specs.Entry.{readE}
@@ -22,13 +22,12 @@ use Rattle.ring.specs.declared.Ring.{Ring}
 use Rattle.ring.specs.Ring.Laws.{Placed}
 use Rattle.rules.specs.Settings.{Settings, lateWindow}
 use Rattle.rules.specs.Sender.{Packet, nothing}
-use Rattle.rules.specs.Run.{isLate, late, lateFrom, earliest, orHere}
+use Rattle.rules.specs.Run.{late, lateFrom, earliest, orHere}
 use Rattle.buffer.specs.declared.SendBuffer.{SendBuffer}
 use Rattle.buffer.specs.State.{packetOf, packetsOf}
 use Rattle.buffer.specs.State.View.{packets-length, packets-at}
 use Rattle.choice.specs.declared.Due.{Due}
 use Rattle.choice.specs.declared.Due.the-variants.{Nothing, At}
-use Rattle.choice.specs.declared.Rule.{Rule}
 use Rattle.choice.specs.declared.Rule.the-variants as rule
 use Rattle.choice.specs.Choice.{ruleBy, dueAt, ruleAt}
 

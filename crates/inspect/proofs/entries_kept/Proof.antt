@@ -1,7 +1,7 @@
 -- `inspect::entries_kept` meets its contract: the sent packets are the first run, the others the second.
 -- Assumes nothing.
 use borrow.Author.Needs.{needs}
-use Rattle.inspect.specs.Kept.Laws.{entries-is}
+use Rattle.inspect.specs.Kept.Entries.{entries-is}
 use Rattle.inspect.proofs.entries_kept.Statement.{statement}
 use Rattle.inspect.proofs.entries_kept.Tie as tie
 

@@ -10,7 +10,7 @@ use Rattle.ring.specs.Ring.{packets}
 use Rattle.ring.specs.Ring.Laws.{packets-length, packets-at}
 use Rattle.buffer.specs.State.{settingsOf}
 use Rattle.inspect.specs.Kept.{all, entryKept}
-use Rattle.inspect.specs.Kept.Laws.{all-on, all-not, all-end, no-entry}
+use Rattle.inspect.specs.Kept.Entries.{all-on, all-not, all-end, no-entry}
 use Rattle.inspect.proofs.run_kept.Statement.{statement}
 use Rattle.inspect.proofs.run_kept.Tie as tie
 

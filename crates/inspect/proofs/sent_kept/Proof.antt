@@ -1,7 +1,7 @@
 -- `inspect::sent_kept` meets its contract: the seven tests.
 -- Assumes nothing.
 use borrow.Author.Needs.{needs}
-use Rattle.inspect.specs.Kept.Laws.{sent-is}
+use Rattle.inspect.specs.Kept.Entries.{sent-is}
 use Rattle.inspect.proofs.sent_kept.Statement.{statement}
 use Rattle.inspect.proofs.sent_kept.Tie as tie
 

@@ -1,7 +1,7 @@
 -- `inspect::unsent_kept` meets its contract: the six tests.
 -- Assumes nothing.
 use borrow.Author.Needs.{needs}
-use Rattle.inspect.specs.Kept.Laws.{unsent-is}
+use Rattle.inspect.specs.Kept.Entries.{unsent-is}
 use Rattle.inspect.proofs.unsent_kept.Statement.{statement}
 use Rattle.inspect.proofs.unsent_kept.Tie as tie
 

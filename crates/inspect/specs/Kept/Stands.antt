@@ -46,7 +46,8 @@ use Rattle.buffer.specs.State.Stands.{HeldAs, Stands, Ready}
 use Rattle.buffer.specs.State.Fresh.{fresh-stands}
 use Rattle.buffer.specs.State.Facts.{stands-facts, stands-sent, stands-unsent}
 use Rattle.inspect.specs.Kept.{flushedKept, numbersKept, areasKept, sentEntry, unsentEntry, entriesKept, kept}
-use Rattle.inspect.specs.Kept.Laws.{Numbered, Framed, sent-is, unsent-is, numbers-facts, facts-numbers, areas-facts, facts-areas, entry-sent, entry-unsent, entry-short, entries-by}
+use Rattle.inspect.specs.Kept.Entries.{sent-is, unsent-is, entry-sent, entry-unsent, entry-short, entries-by}
+use Rattle.inspect.specs.Kept.Laws.{Numbered, Framed, numbers-facts, facts-numbers, areas-facts, facts-areas}
 
 abbrev pub heldOf : Flushed → Option rules.Held
 heldOf Nothing = none

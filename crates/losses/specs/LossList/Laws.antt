@@ -2,7 +2,7 @@
 --   Fits, Left                  what a function asks of the area, and what it leaves: the list's length and every element
 --   Filled                      what taking the nearest out asks for
 --   moved, written              an area with some elements moved up, and with a run written
---   length-over, take-over, set-over   an area with a list in its first elements: its length, the list, one entry more
+--   length-over, take-over, set-over, over-over   an area with a list in its first elements: its length, the list, one entry more, a longer list
 --   staying-none, staying-on, staying-end, staying-few   no entry; the last entry goes, or stays and all before it; no more stay than there were
 --   staying-taken               only those n elements count
 --   Entering, entering          what `enter` leaves, by the two places in the list
@@ -17,7 +17,7 @@ use native.Mathlib.Numerals.{add-one, sub-one}
 use native.Mathlib.Omega.{arith}
 use lib.Dec.{ltb}
 use lib.ListN.{length, take, drop, set, getD, length-append, length-drop, drop-of-length-le}
-use lib.Seq.{slice, length-slice, take-take, drop-cons, drop-at, getD-take, set-append-seam, append-snoc, length-take-le, take-append-seam, take-append-le}
+use lib.Seq.{slice, length-slice, take-take, drop-cons, drop-at, drop-append-add, drop-drop, getD-take, set-append-seam, append-snoc, length-take-le, take-append-seam, take-append-le}
 use borrow.Author.Tests.{lt-ltb, le-ltb, le-leb, lt-leb}
 use Rattle.numbers.specs.Modular.{seqs, plus, dist}
 use Rattle.losses.specs.LossList.{over, staying, falling, entered, inOrder, descends, keeps}
@@ -57,6 +57,15 @@ set-over xs e y h =
 
 pub take-over : (xs e : List ℕ) → take (length xs) (over xs e) ≡ xs
 take-over xs e = take-append-seam xs (drop (length xs) e)
+
+pub over-over : (xs ys e : List ℕ) → length xs ≤ length ys → over ys (over xs e) ≡ over ys e
+over-over xs ys e h =
+    let split : length xs + (length ys - length xs) ≡ length ys = omega arith in
+    ap (λ (l : List ℕ). ys ++ l)
+    (ap (λ (n : ℕ). drop n (over xs e)) (sym split)
+    ∙ drop-append-add xs (drop (length xs) e) (length ys - length xs)
+    ∙ drop-drop (length ys - length xs) (length xs) e
+    ∙ ap (λ (n : ℕ). drop n e) split)
 
 -- ## Removing
 

@@ -3,10 +3,10 @@
 --   keyOf front           the area's key: the distance from the front
 --   farFirst lost         the list on the wire, the other way round: the number nearest the front last
 --   Stands lost front xs  xs is that list, and `lost` ascends from the front on, less than 2^31 away
---   seen front xs         the numbers that xs stands for; stands-seen   and no others
+--   seen front xs         the numbers that xs stands for
 --   key-wire, wire-plus   the key of a number, and the number k further, on the wire
---   stands-none, stands-length, stands-first   the empty list; as many entries; the one nearest the front
---   stands-pop                  the first goes
+--   stands-none, stands-length  the empty list; as many entries
+--   stands-first, stands-pop    the number nearest the front, first in the rules and last in the area; it goes
 --   stands-from, stands-below   those below n go, and the front moves to n; how many those are
 --   far-snoc                    one number more at the far end
 --   stands-entered, stands-grows   a run of numbers enters, each once, as in the rules; no list becomes shorter
@@ -189,19 +189,3 @@ stands-entered f n k {lost} {xs} h r S = record {
 
 pub stands-grows : (f n k : ℕ) {lost xs : List ℕ} → f ≤ n → n + k < f + 2 ^ 31 → Stands lost f xs → length xs ≤ length (entered (keyOf f) (wire n) k xs)
 stands-grows f n k {lost} h r S = omega (arith, entered-longer n k lost, stands-length S, stands-length (stands-entered f n k h r S))
-
--- ## What an area's list stands for
-
-seen-snoc : (f y : ℕ) (ys : List ℕ) → seen f (ys ++ (y ∷ [])) ≡ (f + keyOf f y) ∷ seen f ys
-seen-snoc f y [] = refl
-seen-snoc f y (z ∷ zs) = ap (λ (l : List ℕ). l ++ ((f + keyOf f z) ∷ [])) (seen-snoc f y zs)
-
-seen-wire : (f lo : ℕ) (lost : List ℕ) → f ≤ lo → Ascends lo (f + 2 ^ 31) lost → lost ≡ seen f (farFirst lost)
-seen-wire f lo [] h a = refl
-seen-wire f lo (x ∷ xs) h a =
-    let e : f + (x - f) ≡ x = omega (arith, a .0) in
-    rw (seen-snoc f (wire x) (farFirst xs), key-wire f x (omega (arith, a .0)) (a .1), e)
-    (ap (λ (l : List ℕ). x ∷ l) (seen-wire f (suc x) xs (omega (arith, a .0)) (a .2)))
-
-pub stands-seen : {lost : List ℕ} {f : ℕ} {xs : List ℕ} → Stands lost f xs → lost ≡ seen f xs
-stands-seen {lost} {f} S = seen-wire f f lost (omega arith) (S .ordered) ∙ ap (seen f) (sym (S .is))

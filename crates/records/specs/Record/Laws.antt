@@ -3,7 +3,7 @@
 --   bytes-encode    the bytes are the rules'
 -- Assumes nothing.
 use mathlib.Core.Path.{_≡_, sym, ap, _∙_}
-use mathlib.Core.List.{List, [], _∷_, _++_}
+use mathlib.Core.List.{List, [], _∷_}
 use Prim.Native.Nat.{ℕ, _/_, _%_, _<_}
 use native.Mathlib.Nat.{mod-eq-of-lt}
 use Rattle.rules.specs.Records.{code, bytesOf, encode}

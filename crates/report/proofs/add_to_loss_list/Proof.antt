@@ -18,8 +18,8 @@ enter-runs-requires c κs =
     readable (s .args .b) (s .args .words .now) (s .args .lost .now) (s .args .out .now) _ _ (w .write-runs .ensures)
     (lost-fits (s .pre .ready .stands) (s .pre .ready .kept) (s .args .words .now) (λ j. omega (arith, known .shared-slice-known .given j)))
 
-with-lost-requires : tie.Need-with-lost-requires
-with-lost-requires c κs = search needs
+put-requires : tie.Need-put-requires
+put-requires c κs = search needs
 
 same-length : tie.Need-same-length
 same-length c = search needs
@@ -33,7 +33,7 @@ returns c =
     let w = e .before .before .before .before .before in
     let s = w .before .before .before .before .before .before in
     add-done (s .args .b) (s .args .words .now) (s .args .lost .now) (s .args .out .now) _ _ (w .write-runs .ensures) _ _ _
-    (e .enter-runs .ensures) (c .with-lost .ensures)
+    (e .enter-runs .ensures) (c .put .ensures)
 
 pub add-to-loss-list-spec : {M : Type 1} → statement M
 add-to-loss-list-spec =
@@ -41,7 +41,7 @@ add-to-loss-list-spec =
     (tie.spec
     write-runs-requires
     enter-runs-requires
-    with-lost-requires
+    put-requires
     same-length
     same-length-2
     returns)

@@ -1,19 +1,17 @@
 -- A loss report on the books is the report of the rules, for every sender that the books stand for.
---   joined-inside, runs-stand   joined runs end at next unsent at the latest; what enters the area stands for what enters the list of the rules
+--   runs-stand                  what enters the area stands for what enters the list of the rules
 --   runs-are                    the answer's runs are those of the rules
 --   lost-fits                   there is room in the area for all that enters
 --   stands-reported             the books afterwards
 --   Answers, add-is             the call answers and leaves what the rules say
 -- Assumes nothing.
-use mathlib.Core.Path.{_≡_, refl, sym, ap, _∙_}
-use mathlib.Core.Bool.{Bool, true, false, cond, and-eq-true-iff}
+use mathlib.Core.Path.{_≡_, refl}
 use mathlib.Core.List.{List, [], _∷_, _++_}
-use Prim.Native.Nat.{ℕ, _+_, _-_, _*_, _^_, _≤_, _<_}
+use Prim.Native.Nat.{ℕ, _+_, _*_, _^_, _≤_, _<_}
 use native.Mathlib.Nat.{not-suc-le-zero}
 use native.Mathlib.Omega.{arith}
-use lib.Dec.{eqb}
 use lib.ListN.{length, getD}
-use borrow.Author.Tests.{eqb-true, le-ltb}
+use borrow.Author.Tests.{le-ltb}
 use Rattle.numbers.specs.Modular.{seqs, dist}
 use Rattle.rules.specs.Settings.{Settings}
 use Rattle.rules.specs.Numbers.{wire, distance}
@@ -24,17 +22,17 @@ use Rattle.rules.specs.Books.Laws.{Kept, facts-kept}
 use Rattle.rules.specs.Refusals.{wordsVerdict, nakVerdict}
 use Rattle.rules.specs.Calls as calls
 use Rattle.rules.specs.Losses as rules
-use Rattle.rules.specs.Losses.{Item, Words, items, bad, LossKind, Added, Ignored, Dropped, LossRun, wordsOf, runsOf, joined, glue, meets, sameKind, endOf, enterBy, enterAll}
+use Rattle.rules.specs.Losses.{Item, Words, items, bad, LossKind, Added, Ignored, Dropped, LossRun, wordsOf, runsOf, joined, endOf, enterBy, enterAll}
 use Rattle.rules.proofs.Entering as entering
 use Rattle.losses.specs.LossList.{over}
 use Rattle.losses.specs.LossList.Laws.{take-over, length-over}
 use Rattle.losses.specs.LossList.Stands as losses
 use Rattle.losses.specs.LossList.Stands.{stands-length, stands-entered, stands-grows}
 use Rattle.losses.specs.LossList.Stands.Books.{ascends-few}
-use Rattle.words.specs.Runs.{codeOf, wordsFor, merged, itemsOf}
-use Rattle.words.specs.Runs.Laws.{words-numbers, answer-is, sameKind-true}
+use Rattle.words.specs.Runs.{codeOf, wordsFor, itemsOf}
+use Rattle.words.specs.Runs.Laws.{words-numbers, answer-is}
 use Rattle.words.specs.Runs.Lent.{Holds}
-use Rattle.words.specs.Runs.Entering.{Inside, runs-inside, enterAll-joined, count-is}
+use Rattle.words.specs.Runs.Entering.{Inside, runs-inside, joined-inside, enterAll-joined, count-is}
 use Rattle.buffer.specs.State.{State, state}
 use Rattle.buffer.specs.State.Stands.{Stands}
 use Rattle.buffer.specs.State.Facts.{stands-facts}
@@ -43,37 +41,7 @@ use Rattle.report.specs.Report.Laws.{Growing, Enters, growing-first}
 
 -- ## What the runs stand for
 
--- where a number lies that is k further than one near the front
-further : (a m k : ℕ) → m < 2 ^ 31 → distance (wire a) m + k < 2 ^ 31 → distance (wire a) (wire (m + k)) ≡ distance (wire a) m + k
-unfolding distance
-further a m k h l = omega arith
-
 module _ (s : Sender) (near : sentOf s < 2 ^ 31) where
-  glue-inside : (r : LossRun) (qs : List LossRun) → r .first < 2 ^ 31 → (r .kind ≡ Added → distance (wire (s .front)) (r .first) + r .count ≤ sentOf s)
-      → Inside s qs → Inside s (glue r qs)
-  unfolding glue
-  glue-inside r [] h i a = (h, i, tt)
-  glue-inside r (q ∷ qs) h i a = go (meets r q) refl
-    where
-      go : (t : Bool) → meets r q ≡ t → Inside s (cond t (merged r q ∷ qs) (r ∷ q ∷ qs))
-      go true m =
-          let both = and-eq-true-iff (sameKind (r .kind) (q .kind)) (eqb (endOf r) (q .first)) .0 m in
-          let kind : r .kind ≡ q .kind = sameKind-true (r .kind) (q .kind) (both .0) in
-          let at : endOf r ≡ q .first = eqb-true (endOf r) (q .first) (both .1) in (
-            h,
-            λ e.
-                let far = further (s .front) (r .first) (r .count) h (omega (arith, i e)) in
-                let last = a .1 (sym kind ∙ e) in
-                omega (arith, far, ap (distance (wire (s .front))) at),
-            a .2,
-          )
-      go false m = (h, i, a)
-
-  pub joined-inside : (rs : List LossRun) → Inside s rs → Inside s (joined rs)
-  unfolding joined
-  joined-inside [] a = tt
-  joined-inside (r ∷ rs) a = glue-inside r (joined rs) (a .0) (a .1) (joined-inside rs (a .2))
-
   run-stands : (k : LossKind) (first count : ℕ) → first < 2 ^ 31 → (k ≡ Added → distance (wire (s .front)) first + count ≤ sentOf s)
       → {lost xs : List ℕ} → losses.Stands lost (s .front) xs
       → losses.Stands (enterBy k (s .front + distance (wire (s .front)) first) count lost) (s .front)

@@ -23,7 +23,7 @@ use Rattle.refusals.specs.Choice.{cond-by}
 use Rattle.ring.specs.declared.Entry.{Entry}
 use Rattle.ring.specs.declared.Ring.{Ring}
 use Rattle.ring.specs.Entry.{entry, readE, writeE}
-use Rattle.ring.specs.Entry.Laws.{length-writeE, readE-same, readE-other}
+use Rattle.ring.specs.Entry.Laws.{readE-same, readE-other}
 use Rattle.ring.specs.Ring.{wrapOf, slotOf, tab, packets, pushed, removed, placed}
 
 pub record Placed (r : Ring) (xs : List ℕ) : Type 0 where

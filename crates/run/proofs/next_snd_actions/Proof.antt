@@ -42,7 +42,7 @@ turn-requires c κs = let t = c .before .before in going-turning _ _ _ _ _ (t .b
 
 sub-less : tie.Need-sub-less Inv-loop μ-loop
 sub-less c =
-    let d = c .before .before .before .before .before .before .before in
+    let d = c .before .before .before .before .before .before .before .before in
     let t = d .before .before .before in
     let w = going-less _ _ _ _ _ (t .before .loop .inv .0) (t .if2 .left) _ _ _ _ (d .turn .ensures) (c .before .if3 .left) in
     omega (arith, w .0)
@@ -52,13 +52,13 @@ less-requires c κs = search needs
 
 loop-less : tie.Need-loop-less Inv-loop μ-loop
 loop-less c =
-    let d = c .before .before .before .before .before .before .before .before in
+    let d = c .before .before .before .before .before .before .before .before .before in
     let t = d .before .before .before in
     rw (c .less .ensures) (going-less _ _ _ _ _ (t .before .loop .inv .0) (t .if2 .left) _ _ _ _ (d .turn .ensures) (c .before .before .if3 .left) .1)
 
 loop-again : tie.Need-loop-again Inv-loop μ-loop
 loop-again c =
-    let d = c .before .before .before .before .before .before .before .before in
+    let d = c .before .before .before .before .before .before .before .before .before in
     let t = d .before .before .before in
     let k = d .turn .kept in
     let v = t .before .loop .inv in
@@ -78,18 +78,18 @@ returns-2 c =
 
 same-length-3 : tie.Need-same-length-3 Inv-loop μ-loop
 same-length-3 c =
-    let d = c .before .before .before .before .before .before in
+    let d = c .before .before .before .before .before .before .before in
     d .turn .kept .1 .1 .1 .1 .0 ∙ d .before .before .before .before .loop .inv .1
 
 same-length-4 : tie.Need-same-length-4 Inv-loop μ-loop
 same-length-4 c =
-    let d = c .before .before .before .before .before .before in
+    let d = c .before .before .before .before .before .before .before in
     let l = d .before .before .before .before in
     d .turn .kept .1 .1 .1 .1 .1 .1 .0 ∙ l .loop .inv .2 ∙ l .before .before .before .before .sweep .kept .1 .1 .1 .1 .1 .0
 
 returns-3 : tie.Need-returns-3 Inv-loop μ-loop
 returns-3 c =
-    let d = c .before .before .before .before .before .before in
+    let d = c .before .before .before .before .before .before .before in
     let t = d .before .before .before in
     let w = t .before .before .before .before .before in
     going-end _ _ _ _ _ (t .before .loop .inv .0) (t .if2 .left) _ _ _ _ (d .turn .ensures) (c .if3 .taken)

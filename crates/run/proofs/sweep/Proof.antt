@@ -13,11 +13,8 @@ late-packets-requires c κs =
     let r = c .before .before .before .pre .ready in
     stands-readable (r .stands) (r .kept)
 
-progress-requires : tie.Need-progress-requires
-progress-requires c κs = search needs
-
 returns : tie.Need-returns
-returns c = rw (c .progress .ensures) (swept-none _ _ _ _ _ _ _ (c .before .before .late-packets .ensures) (c .before .if1 .taken))
+returns c = swept-none _ _ _ _ _ _ _ (c .before .late-packets .ensures) (c .if1 .taken)
 
 drop-too-late-packets-requires : tie.Need-drop-too-late-packets-requires
 drop-too-late-packets-requires c κs =
@@ -33,27 +30,21 @@ drop-too-late-packets-requires c κs =
       (k .front, omega (arith, s .pre .room)),
     )
 
-progress-requires-2 : tie.Need-progress-requires-2
-progress-requires-2 c κs = search needs
-
 same-length : tie.Need-same-length
 same-length c = search needs
 
 returns-2 : tie.Need-returns-2
 returns-2 c =
-    let d = c .before .before .before in
+    let d = c .before .before in
     let f = d .before .before in
-    rw (c .progress2 .ensures)
-    (swept-some _ _ _ _ _ _ _ (f .before .late-packets .ensures) _ _ (f .if1 .left) (d .drop-too-late-packets .ensures))
+    swept-some _ _ _ _ _ _ _ (f .before .late-packets .ensures) _ _ (f .if1 .left) (d .drop-too-late-packets .ensures)
 
 pub sweep-spec : {M : Type 1} → statement M
 sweep-spec =
     tie.close
     (tie.spec
     late-packets-requires
-    progress-requires
     returns
     drop-too-late-packets-requires
-    progress-requires-2
     same-length
     returns-2)

@@ -24,28 +24,29 @@ enum-told c = search needs
 
 send-next-lost-packet-requires : tie.Need-send-next-lost-packet-requires
 send-next-lost-packet-requires c κs =
-    let s = c .before .before .before .before .before .before .before .before .before in
-    (record { settings = _; ready = s .pre .ready; some = loss-some _ _ _ (state (s .args .b) (s .args .ring .now) (s .args .lost .now)) (sym (c .before .before .before .before .first-rule .ensures) ∙ c .before .before .enum-told .given .1); early = s .pre .early }, omega (arith, s .pre .room))
+    let told = c .before .before in
+    let asked = told .before .before in
+    let s = asked .before .before .before .before .before in
+    let st = state (s .args .b) (s .args .ring .now) (s .args .lost .now) in
+    let some = loss-some _ _ _ st (sym (asked .first-rule .ensures) ∙ told .enum-told .given .1) in
+    (record { settings = _; ready = s .pre .ready; some = some; early = s .pre .early }, omega (arith, s .pre .room))
 
-add-progress : tie.Need-add-progress
-add-progress c = let s = c .before .before .before .before .before .before .before .before .before .before .before .before .before .before in record { fits = omega (arith, s .pre .room, s .good .1 .1 .1 .1 .1 .1 .0) }
-
-progress-requires : tie.Need-progress-requires
-progress-requires c κs = search needs
+turned-requires : tie.Need-turned-requires
+turned-requires c κs = search needs
 
 enum-known-i : tie.Need-enum-known-i
 enum-known-i c = search needs
 
 send-next-rto-packet-requires : tie.Need-send-next-rto-packet-requires
 send-next-rto-packet-requires c κs =
-    let s = c .before .before .before .before .before .before .before .before .before .before in
-    (record { settings = _; lost = _; ready = s .pre .ready }, (due-inside _ _ _ _ _ (s .pre .ready) (s .pre .early) (sym (c .before .before .before .before .before .first-rule .ensures) ∙ c .before .before .before .i .given .1), s .pre .early, omega (arith, s .pre .room)))
+    let told = c .before .before .before in
+    let asked = told .before .before in
+    let s = asked .before .before .before .before .before in
+    let inside = due-inside _ _ _ _ _ (s .pre .ready) (s .pre .early) (sym (asked .first-rule .ensures) ∙ told .i .given .1) in
+    (record { settings = _; lost = _; ready = s .pre .ready }, (inside, s .pre .early, omega (arith, s .pre .room)))
 
-add-progress-2 : tie.Need-add-progress-2
-add-progress-2 c = let s = c .before .before .before .before .before .before .before .before .before .before .before .before .before .before .before in record { fits = omega (arith, s .pre .room, s .good .1 .1 .1 .1 .1 .1 .0) }
-
-progress-requires-2 : tie.Need-progress-requires-2
-progress-requires-2 c κs = search needs
+turned-requires-2 : tie.Need-turned-requires-2
+turned-requires-2 c κs = search needs
 
 enum-told-2 : tie.Need-enum-told-2
 enum-told-2 c = search needs
@@ -53,36 +54,38 @@ enum-told-2 c = search needs
 wait-for-ack-requires : tie.Need-wait-for-ack-requires
 wait-for-ack-requires c κs = let s = c .before .before .before .before .before .before .before .before in omega (arith, s .pre .room)
 
-add-progress-3 : tie.Need-add-progress-3
-add-progress-3 c = let s = c .before .before .before .before .before .before .before .before .before .before .before in record { fits = omega (arith, s .pre .room, s .good .1 .1 .1 .1 .1 .1 .0) }
-
-progress-requires-3 : tie.Need-progress-requires-3
-progress-requires-3 c κs = search needs
+turned-requires-3 : tie.Need-turned-requires-3
+turned-requires-3 c κs = search needs
 
 enum-told-3 : tie.Need-enum-told-3
 enum-told-3 c = search needs
 
 send-unsent-requires : tie.Need-send-unsent-requires
 send-unsent-requires c κs =
-    let s = c .before .before .before .before .before .before .before .before .before in
-    (record { settings = _; lost = _; ready = s .pre .ready }, (unsent-more _ _ _ (state (s .args .b) (s .args .ring .now) (s .args .lost .now)) (sym (c .before .before .before .before .first-rule .ensures) ∙ c .before .before .enum-told3 .given .1), s .pre .early, s .pre .room))
+    let told = c .before .before in
+    let asked = told .before .before in
+    let s = asked .before .before .before .before .before in
+    let st = state (s .args .b) (s .args .ring .now) (s .args .lost .now) in
+    let more = unsent-more _ _ _ st (sym (asked .first-rule .ensures) ∙ told .enum-told3 .given .1) in
+    (record { settings = _; lost = _; ready = s .pre .ready }, (more, s .pre .early, s .pre .room))
 
-progress-requires-4 : tie.Need-progress-requires-4
-progress-requires-4 c κs = search needs
+turned-requires-4 : tie.Need-turned-requires-4
+turned-requires-4 c κs = search needs
 
 enum-told-4 : tie.Need-enum-told-4
 enum-told-4 c = search needs
 
 flush-on-close-requires : tie.Need-flush-on-close-requires
 flush-on-close-requires c κs =
-    let s = c .before .before .before .before .before .before .before .before .before in
-    (record { ready = s .pre .ready; one = flush-one _ _ _ (state (s .args .b) (s .args .ring .now) (s .args .lost .now)) (sym (c .before .before .before .before .first-rule .ensures) ∙ c .before .before .enum-told4 .given .1) }, omega (arith, s .pre .room))
+    let told = c .before .before in
+    let asked = told .before .before in
+    let s = asked .before .before .before .before .before in
+    let st = state (s .args .b) (s .args .ring .now) (s .args .lost .now) in
+    let one = flush-one _ _ _ st (sym (asked .first-rule .ensures) ∙ told .enum-told4 .given .1) in
+    (record { ready = s .pre .ready; one = one }, omega (arith, s .pre .room))
 
-add-progress-4 : tie.Need-add-progress-4
-add-progress-4 c = let s = c .before .before .before .before .before .before .before .before .before .before .before .before in record { fits = omega (arith, s .pre .room, s .good .1 .1 .1 .1 .1 .1 .0) }
-
-progress-requires-5 : tie.Need-progress-requires-5
-progress-requires-5 c κs = search needs
+turned-requires-5 : tie.Need-turned-requires-5
+turned-requires-5 c κs = search needs
 
 enum-told-5 : tie.Need-enum-told-5
 enum-told-5 c = search needs
@@ -90,11 +93,8 @@ enum-told-5 c = search needs
 wait-for-input-requires : tie.Need-wait-for-input-requires
 wait-for-input-requires c κs = let s = c .before .before .before .before .before .before .before .before in omega (arith, s .pre .room)
 
-add-progress-5 : tie.Need-add-progress-5
-add-progress-5 c = let s = c .before .before .before .before .before .before .before .before .before .before .before in record { fits = omega (arith, s .pre .room, s .good .1 .1 .1 .1 .1 .1 .0) }
-
-progress-requires-6 : tie.Need-progress-requires-6
-progress-requires-6 c κs = search needs
+turned-requires-6 : tie.Need-turned-requires-6
+turned-requires-6 c κs = search needs
 
 same-length : tie.Need-same-length
 same-length c = search needs
@@ -105,9 +105,11 @@ same-length-2 c = search needs
 returns : tie.Need-returns
 unfolding act lossTurn sentAs
 returns c =
-    rw (c .progress .ensures)
-    (done-by _ _ _ _ _ _ _ _ _ (lossTurn _) false (turn-is _ _ _ _ rule.Loss (sym (c .before .before .before .before .before .before .before .before .before .before .first-rule .ensures) ∙ c .before .before .before .before .before .before .before .before .enum-told .given .1)) refl
-    (c .before .before .before .before .before .send-next-lost-packet .ensures))
+    let d = c .before .before .before .before .before in
+    let told = d .before .before .before in
+    let asked = told .before .before in
+    rw (c .turned .ensures)
+    (done-by _ _ _ _ _ _ _ _ _ (lossTurn _) false (turn-is _ _ _ _ rule.Loss (sym (asked .first-rule .ensures) ∙ told .enum-told .given .1)) refl (d .send-next-lost-packet .ensures))
 
 same-length-3 : tie.Need-same-length-3
 same-length-3 c = search needs
@@ -118,9 +120,11 @@ same-length-4 c = search needs
 returns-2 : tie.Need-returns-2
 unfolding act sentAs
 returns-2 c =
-    rw (c .progress2 .ensures)
-    (done-by _ _ _ _ _ _ _ _ _ (dueTurn _ _) false (turn-is _ _ _ _ _ (sym (c .before .before .before .before .before .before .before .before .before .before .before .first-rule .ensures) ∙ c .before .before .before .before .before .before .before .before .before .i .given .1)) refl
-    (c .before .before .before .before .before .send-next-rto-packet .ensures .is _))
+    let d = c .before .before .before .before .before in
+    let told = d .before .before .before .before in
+    let asked = told .before .before in
+    rw (c .turned2 .ensures)
+    (done-by _ _ _ _ _ _ _ _ _ (dueTurn _ _) false (turn-is _ _ _ _ _ (sym (asked .first-rule .ensures) ∙ told .i .given .1)) refl (d .send-next-rto-packet .ensures .is _))
 
 same-length-5 : tie.Need-same-length-5
 same-length-5 c = search needs
@@ -131,8 +135,11 @@ same-length-6 c = search needs
 returns-3 : tie.Need-returns-3
 unfolding act windowTurn
 returns-3 c =
-    rw (c .progress3 .ensures)
-    (done-by _ _ _ _ _ _ _ _ _ windowTurn true (turn-is _ _ _ _ rule.Window (sym (c .before .before .before .before .before .before .before .first-rule .ensures) ∙ c .before .before .before .before .before .enum-told2 .given .1)) refl (c .before .before .before .wait-for-ack .ensures .is _ _))
+    let d = c .before .before .before in
+    let told = d .before .before in
+    let asked = told .before .before in
+    rw (c .turned3 .ensures)
+    (done-by _ _ _ _ _ _ _ _ _ windowTurn true (turn-is _ _ _ _ rule.Window (sym (asked .first-rule .ensures) ∙ told .enum-told2 .given .1)) refl (d .wait-for-ack .ensures .is _ _))
 
 same-length-7 : tie.Need-same-length-7
 same-length-7 c = search needs
@@ -143,8 +150,11 @@ same-length-8 c = search needs
 returns-4 : tie.Need-returns-4
 unfolding act unsentTurn
 returns-4 c =
-    rw (c .progress4 .ensures)
-    (done-by _ _ _ _ _ _ _ _ _ (unsentTurn _) false (turn-is _ _ _ _ rule.Unsent (sym (c .before .before .before .before .before .before .before .before .before .before .first-rule .ensures) ∙ c .before .before .before .before .before .before .before .before .enum-told3 .given .1)) refl (c .before .before .before .before .before .send-unsent .ensures .is _))
+    let d = c .before .before .before .before .before in
+    let told = d .before .before .before in
+    let asked = told .before .before in
+    rw (c .turned4 .ensures)
+    (done-by _ _ _ _ _ _ _ _ _ (unsentTurn _) false (turn-is _ _ _ _ rule.Unsent (sym (asked .first-rule .ensures) ∙ told .enum-told3 .given .1)) refl (d .send-unsent .ensures .is _))
 
 same-length-9 : tie.Need-same-length-9
 same-length-9 c = search needs
@@ -155,8 +165,11 @@ same-length-10 c = search needs
 returns-5 : tie.Need-returns-5
 unfolding act flushTurn
 returns-5 c =
-    rw (c .progress5 .ensures)
-    (done-by _ _ _ _ _ _ _ _ _ (flushTurn _) false (turn-is _ _ _ _ rule.Flush (sym (c .before .before .before .before .before .before .before .before .first-rule .ensures) ∙ c .before .before .before .before .before .before .enum-told4 .given .1)) refl (c .before .before .before .flush-on-close .ensures))
+    let d = c .before .before .before in
+    let told = d .before .before .before in
+    let asked = told .before .before in
+    rw (c .turned5 .ensures)
+    (done-by _ _ _ _ _ _ _ _ _ (flushTurn _) false (turn-is _ _ _ _ rule.Flush (sym (asked .first-rule .ensures) ∙ told .enum-told4 .given .1)) refl (d .flush-on-close .ensures))
 
 same-length-11 : tie.Need-same-length-11
 same-length-11 c = search needs
@@ -167,8 +180,11 @@ same-length-12 c = search needs
 returns-6 : tie.Need-returns-6
 unfolding act inputTurn
 returns-6 c =
-    rw (c .progress6 .ensures)
-    (done-by _ _ _ _ _ _ _ _ _ inputTurn true (turn-is _ _ _ _ rule.Input (sym (c .before .before .before .before .before .before .before .first-rule .ensures) ∙ c .before .before .before .before .before .enum-told5 .given .1)) refl (c .before .before .before .wait-for-input .ensures .is _ _))
+    let d = c .before .before .before in
+    let told = d .before .before in
+    let asked = told .before .before in
+    rw (c .turned6 .ensures)
+    (done-by _ _ _ _ _ _ _ _ _ inputTurn true (turn-is _ _ _ _ rule.Input (sym (asked .first-rule .ensures) ∙ told .enum-told5 .given .1)) refl (d .wait-for-input .ensures .is _ _))
 
 pub turn-spec : {M : Type 1} → statement M
 turn-spec =
@@ -177,27 +193,22 @@ turn-spec =
     first-rule-requires
     enum-told
     send-next-lost-packet-requires
-    add-progress
-    progress-requires
+    turned-requires
     enum-known-i
     send-next-rto-packet-requires
-    add-progress-2
-    progress-requires-2
+    turned-requires-2
     enum-told-2
     wait-for-ack-requires
-    add-progress-3
-    progress-requires-3
+    turned-requires-3
     enum-told-3
     send-unsent-requires
-    progress-requires-4
+    turned-requires-4
     enum-told-4
     flush-on-close-requires
-    add-progress-4
-    progress-requires-5
+    turned-requires-5
     enum-told-5
     wait-for-input-requires
-    add-progress-5
-    progress-requires-6
+    turned-requires-6
     same-length
     same-length-2
     returns

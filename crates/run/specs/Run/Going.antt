@@ -2,19 +2,21 @@
 --   Going                       so much of the run is still to do, and there is room for it
 --   going-start                 the loop begins after rule 1; run-from   and its end is the run's
 --   going-turning               what a turn asks for; going-on, going-end, going-done   a turn goes on, or ends the run; the budget is gone
+--   going-less                  a turn that goes on writes a record and costs a unit
 -- Assumes nothing.
 use mathlib.Core.Path.{_≡_, refl, sym, ap, _∙_, subst}
 use mathlib.Core.Bool.{Bool, true, false}
-use mathlib.Core.List.{List, [], _∷_}
+use mathlib.Core.List.{List}
 use Prim.Native.Nat.{ℕ, zero, suc, _+_, _-_, _*_, _^_, _≤_, _<_, min}
 use native.Mathlib.Omega.{arith}
 use lib.ListN.{length}
 use Rattle.rules.specs.Settings.{Settings}
-use Rattle.rules.specs.Records.{Action, sends}
+use Rattle.rules.specs.Records.{sends}
 use Rattle.buffer.specs.State.{State}
-use Rattle.sending.specs.Sending.{Turned, Acted, written}
-use Rattle.run.specs.Run.{World, world, turn, after, loop, swept, run}
-use Rattle.run.specs.Run.Turns.{Turning, Done, Swept, Runnable, InLoop, loop-done, turn-end, turn-some, turn-room, turn-cost, turn-on, swept-in}
+use Rattle.sending.specs.Sending.{Turned}
+use Rattle.run.specs.Run.{World, world, turn, after, loop, run}
+use Rattle.run.specs.Run.Turns.{Turning, Done, Swept, Runnable}
+use Rattle.run.specs.Run.Loop.{InLoop, loop-done, turn-end, turn-some, turn-room, turn-cost, turn-on, swept-in}
 
 pub record Going (c : Settings) (now : ℕ) (draining : Bool) (goal w : World) : Type 0 where
   pub early : now < 2 ^ 48

@@ -1,20 +1,20 @@
 -- What the code of a sending uses.
 --   Recorded k m e r     r is the record of a sending of the entry e, as the number that m stands for
 --   place-bits, again-bit, recorded   the record's flags, and the record
---   Sendable, sent-from               a sending, and what its parts come to
 --   wait-product, wait-small, wait-first, wait-again   what is added to now
+--   Sendable, sentBooks, sent-from    what a sending asks for and leaves, and what its parts come to
+--   acts-as              the same under another name of the turn
+--   written-append       the records of two turns in the list
 -- Assumes nothing.
 use mathlib.Core.Path.{_≡_, refl, sym, ap, _∙_}
-use mathlib.Core.List.{List, [], _∷_}
-use Prim.Native.Nat.{ℕ, zero, suc, _+_, _-_, _*_, _%_, _^_, _≤_, _<_, min}
+use mathlib.Core.List.{List, [], _∷_, _++_}
+use Prim.Native.Nat.{ℕ, zero, suc, _+_, _-_, _*_, _^_, _≤_, _<_, min}
 use native.Mathlib.Nat.{mul-le-mul}
-use mathlib.Core.Bool.{true, false, _&&_}
-use lib.Dec.{ltb, eqb}
 use lib.ListN.{length, getD}
 use lib.Seq.{paste}
 use native.Mathlib.Omega.{arith}
 use Rattle.numbers.specs.declared.SeqNumber.{SeqNumber}
-use Rattle.numbers.specs.Modular.{seqs, plus, dist}
+use Rattle.numbers.specs.Modular.{seqs, plus}
 use Rattle.numbers.specs.Modular.Laws.{plus-is}
 use Rattle.encapsulate.specs.Header.{placeBits, bit, stamp}
 use Rattle.ring.specs.declared.Entry.{Entry}
@@ -31,7 +31,8 @@ use Rattle.rules.specs.Run.{wait}
 use Rattle.buffer.specs.declared.SendBuffer.{SendBuffer}
 use Rattle.buffer.specs.State.{State, state, placeFrom, packetOf, packetsOf, put}
 use Rattle.buffer.specs.State.View.{packets-at}
-use Rattle.sending.specs.Sending.{Turned, Acted, Acts, stamped, sentWords, sentAs, nextTurn, isSixteenth, idle, sixteenTurn, unsentTurn, written}
+use Rattle.sending.specs.declared.Written.{Written}
+use Rattle.sending.specs.Sending.{Turned, Acts, stamped, sentWords, sentAs, written}
 
 pub record Recorded (k : Kind) (m : ℕ) (e : Entry) (r : Record) : Type 0 where
   pub is : (n : ℕ) → m ≡ wire n → actionOf r ≡ sendRecord k n (packetOf e)
@@ -87,6 +88,10 @@ pub record Sendable (b : SendBuffer) (i now : ℕ) (ring : List ℕ) : Type 0 wh
   pub len : readE ring (slotOf (b .ring) i) .len ≤ 1_456
   pub count : readE ring (slotOf (b .ring) i) .count ≤ 65_535
 
+-- the books then, and how many records there are
+abbrev pub sentBooks : ℕ → ℕ → SendBuffer → Written
+sentBooks sent n b = record { buffer = put b (b .ring) (b .front .0) sent (b .lost) (b .bytes); count = n + 1 }
+
 -- one record more
 one-written : (n : ℕ) (a : Action) (out : List ℕ) → paste out (n * 24) (encode a) 24 ≡ written n (a ∷ []) out
 unfolding written
@@ -95,8 +100,7 @@ one-written n a out = refl
 sent-acts : (k : Kind) (now i sent n : ℕ) (b : SendBuffer) (ring out : List ℕ) (number : SeqNumber) (r : Record) → i < b .ring .len
     → number .0 ≡ plus seqs (b .front .0) i
     → Recorded k (number .0) (readE ring (slotOf (b .ring) i)) r
-    → Acts (sentAs k now i sent) b ring n out (put b (b .ring) (b .front .0) sent (b .lost) (b .bytes)) (sentWords now i b ring) (n + 1)
-    (paste out (n * 24) (encode (actionOf r)) 24)
+    → Acts (sentAs k now i sent) b ring n out (sentBooks sent n b) (sentWords now i b ring) (paste out (n * 24) (encode (actionOf r)) 24)
 unfolding sentAs
 sent-acts k now i sent n b ring out number r h e R = record {
   is = λ lost. record {
@@ -115,22 +119,16 @@ pub sent-from : (k : Kind) (now i sent n : ℕ) (b : SendBuffer) (ring out : Lis
     → number .0 ≡ plus seqs (b .front .0) i
     → Recorded k (number .0) e r
     → left ≡ paste out (n * 24) (encode (actionOf r)) 24
-    → Acts (sentAs k now i sent) b ring n out (put b (b .ring) (b .front .0) sent (b .lost) (b .bytes)) words (n + 1) left
+    → Acts (sentAs k now i sent) b ring n out (sentBooks sent n b) words left
 sent-from k now i sent n b ring out e x number r words left h p q w m R o =
     rw (w, q, p, o) (sent-acts k now i sent n b ring out number r h m (rw p at R))
 
--- ## Rule 5
-
--- where the packet after the next one goes at once, it may be sent
-pub record Sixteen (b : SendBuffer) (now : ℕ) (ring : List ℕ) : Type 0 where
-  pub ready : (lost : List ℕ) → isSixteenth (state b ring lost) ≡ true → Sendable b (b .sent) now ring
-
 -- the same under another name of the turn
-pub acts-as : (tn t : State → Turned) (b : SendBuffer) (ring : List ℕ) (n : ℕ) (out : List ℕ) (r : SendBuffer) (words : List ℕ) (m : ℕ) (left : List ℕ)
+pub acts-as : (tn t : State → Turned) (b : SendBuffer) (ring : List ℕ) (n : ℕ) (out : List ℕ) (w : Written) (words left : List ℕ)
     → ((lost : List ℕ) → tn (state b ring lost) ≡ t (state b ring lost))
-    → Acts t b ring n out r words m left
-    → Acts tn b ring n out r words m left
-acts-as tn t b ring n out r words m left e A = record {
+    → Acts t b ring n out w words left
+    → Acts tn b ring n out w words left
+acts-as tn t b ring n out w words left e A = record {
   is = λ lost.
       record {
         state = A .is lost .state ∙ sym (ap (λ (u : Turned). u .state) (e lost));
@@ -139,23 +137,10 @@ acts-as tn t b ring n out r words m left e A = record {
       };
 }
 
-module _ (now : ℕ) (b : SendBuffer) (ring : List ℕ) (n : ℕ) (out : List ℕ) where
-  test-is : (next : SeqNumber) (lost : List ℕ) → next .0 ≡ plus seqs (b .front .0) (b .sent)
-      → (eqb (next .0 % 16) 0 && ltb (b .sent) (b .ring .len)) ≡ isSixteenth (state b ring lost)
-  test-is next lost e = rw e
-
-  pub sixteen-sends : (next : SeqNumber) (r : SendBuffer) (words : List ℕ) (m : ℕ) (left : List ℕ) → next .0 ≡ plus seqs (b .front .0) (b .sent)
-      → (eqb (next .0 % 16) 0 && ltb (b .sent) (b .ring .len)) ≡ true
-      → Acts (nextTurn now) b ring n out r words m left
-      → Acts (sixteenTurn now) b ring n out r words m left
-  unfolding sixteenTurn
-  sixteen-sends next r words m left e y A =
-      acts-as (sixteenTurn now) (nextTurn now) b ring n out r words m left (λ lost. rw (sym (test-is next lost e) ∙ y)) A
-
-  pub sixteen-idle : (next : SeqNumber) → next .0 ≡ plus seqs (b .front .0) (b .sent)
-      → (eqb (next .0 % 16) 0 && ltb (b .sent) (b .ring .len)) ≡ false
-      → Acts (sixteenTurn now) b ring n out b ring n out
-  unfolding sixteenTurn written
-  sixteen-idle next e y =
-      acts-as (sixteenTurn now) idle b ring n out b ring n out (λ lost. rw (sym (test-is next lost e) ∙ y))
-      (record { is = λ lost. record { state = refl; count = omega arith; list = refl } })
+-- the records of two turns, one behind the other
+pub written-append : (n : ℕ) (rs qs : List Action) (out : List ℕ) → written n (rs ++ qs) out ≡ written (n + length rs) qs (written n rs out)
+unfolding written
+written-append n [] qs out = let e : n + 0 ≡ n = omega arith in rw e
+written-append n (a ∷ rs) qs out =
+    let e : n + suc (length rs) ≡ suc n + length rs = omega arith in
+    rw e (written-append (suc n) rs qs (paste out (n * 24) (encode a) 24))

@@ -1,8 +1,8 @@
 -- What each rule does to books that stand for a sender is what the rules do to the sender.
 --   TurnStands c t u            the turn t leaves what stands for what u leaves, and writes its records
 --   few, number-is, packet-is, record-is   packets and their numbers
---   stands-dropped, stands-sent, stands-popped   rule 1; a sending; the loss list's first number goes
---   first-below                 the loss list's first number is one of the sent ones
+--   stands-dropped, stands-sent, stands-popped   rule 1; a sending; the number nearest the front goes from the loss list
+--   nearest-below               the number on the loss list nearest the front is one of the sent ones
 --   stands-loss, stands-due, stands-window, stands-next, stands-unsent, stands-flush, stands-input   rules 2 to 7
 -- Assumes nothing.
 use mathlib.Core.Path.{_≡_, refl, sym, ap, _∙_, subst}
@@ -127,7 +127,7 @@ module _ {c : Settings} {st : State} {s : Sender} (S : Stands c st s) where
           ends = refl;
         }
 
-  -- ## The loss list's first number goes
+  -- ## The number nearest the front goes from the loss list
 
   module _ (x : ℕ) (xs : List ℕ) (e : s .lost ≡ x ∷ xs) where
     abbrev pub shorter : Sender
@@ -274,10 +274,10 @@ module _ {c : Settings} (now : ℕ) (draining : Bool) where
           record { state = N .state; records = rw (T .records, N .records); ends = refl }
       go false e = record { state = T .state; records = append-nil (nextTurn now st .records) ∙ T .records; ends = sym n }
 
--- the loss list's first number is one of the sent ones
-pub first-below : {c : Settings} {st : State} {s : Sender} → Stands c st s → Kept c s → 0 < st .books .lost
+-- the number on the loss list nearest the front is one of the sent ones
+pub nearest-below : {c : Settings} {st : State} {s : Sender} → Stands c st s → Kept c s → 0 < st .books .lost
     → dist seqs (st .books .front .0) (nearest st) < st .books .sent
-first-below {c} {st} {s} S K h = go (s .lost) refl
+nearest-below {c} {st} {s} S K h = go (s .lost) refl
   where
     go : (l : List ℕ) → s .lost ≡ l → dist seqs (st .books .front .0) (nearest st) < st .books .sent
     go [] e = absurd (omega (arith, h, S .count, ap length e))

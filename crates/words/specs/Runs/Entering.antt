@@ -1,7 +1,7 @@
 -- The numbers that enter the loss list may be taken from the answer's runs: those that are joined enter the same numbers as the runs of the
 -- items one by one. Document 01, "Loss words": "Added numbers enter the list once."
 --   Inside s rs              every run begins with a number, and one that is Added ends at next unsent at the latest
---   runs-inside              the runs of a report's items do
+--   runs-inside, joined-inside   the runs of a report's items do, and do when they are joined
 --   entered-sum              the numbers of a run enter in two parts
 --   enterAll-joined          the joined runs enter what the runs enter
 --   count-is                 how many numbers a run has, by its two ends
@@ -106,6 +106,31 @@ module _ (s : Sender) (few : sentOf s < 2 ^ 31) where
       go : (b : Bool) → meets r q ≡ b → enterAll s (cond b (merged r q ∷ qs) (r ∷ q ∷ qs)) xs ≡ enterAll s (r ∷ q ∷ qs) xs
       go true e = ap (enterAll s qs) (one-run r q xs h i e)
       go false e = refl
+
+  glue-inside : (r : LossRun) (qs : List LossRun) → r .first < 2 ^ 31 → (r .kind ≡ Added → distance (wire (s .front)) (r .first) + r .count ≤ sentOf s)
+      → Inside s qs → Inside s (glue r qs)
+  unfolding glue
+  glue-inside r [] h i a = (h, i, tt)
+  glue-inside r (q ∷ qs) h i a = go (meets r q) refl
+    where
+      go : (t : Bool) → meets r q ≡ t → Inside s (cond t (merged r q ∷ qs) (r ∷ q ∷ qs))
+      go true m =
+          let both = and-eq-true-iff (sameKind (r .kind) (q .kind)) (eqb (endOf r) (q .first)) .0 m in
+          let kind : r .kind ≡ q .kind = sameKind-true (r .kind) (q .kind) (both .0) in
+          let at : endOf r ≡ q .first = eqb-true (endOf r) (q .first) (both .1) in (
+            h,
+            λ e.
+                let far = further (s .front) (r .first) (r .count) h (omega (arith, i e)) in
+                let last = a .1 (sym kind ∙ e) in
+                omega (arith, far, ap (distance (wire (s .front))) at),
+            a .2,
+          )
+      go false m = (h, i, a)
+
+  pub joined-inside : (rs : List LossRun) → Inside s rs → Inside s (joined rs)
+  unfolding joined
+  joined-inside [] a = tt
+  joined-inside (r ∷ rs) a = glue-inside r (joined rs) (a .0) (a .1) (joined-inside rs (a .2))
 
   pub enterAll-joined : (rs : List LossRun) (xs : List ℕ) → Inside s rs → enterAll s (joined rs) xs ≡ enterAll s rs xs
   unfolding joined enterAll

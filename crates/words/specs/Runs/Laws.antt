@@ -1,17 +1,17 @@
 -- The runs as the rules have them.
 --   Sends s f n              f is the front of the sender s, and n of its packets are sent
 --   Reaches, reaches-added, reaches-ignored, reaches-dropped   kind and reach of a number, by the tests that the code makes
---   kindAt-is, reachAt-is, stretchAt-is, runsAt-is   kinds, reaches and runs are those of the rules
+--   kindAt-is, stretchAt-is, runsAt-is   kinds and runs are those of the rules
 --   Numbers is               every end of an item is a number; words-numbers   those of a report's items are
 --   answer-is                the answer that is written is that of the rules
---   joined-add, addAll-joined   runs added one by one, each at the end, are the joined ones
---   add-longer, stretchAt-few   how many runs there are at most
+--   sameKind-true, end-merged   what two runs that are one have in common
+--   addAll-joined, addAll-append   runs added one by one, each at the end, are the joined ones; and may be added in two parts
 -- Assumes nothing.
 use mathlib.Core.Path.{_≡_, refl, sym, ap, _∙_}
 use mathlib.Core.Bool.{Bool, true, false, _&&_, cond, and-eq-true-iff}
 use mathlib.Core.List.{List, [], _∷_, _++_, append-nil}
 use lib.Seq.{append-snoc}
-use Prim.Native.Nat.{ℕ, zero, suc, _+_, _-_, _^_, _≤_, _<_, min, suc-le-suc}
+use Prim.Native.Nat.{ℕ, zero, suc, _+_, _-_, _^_, _≤_, _<_, min}
 use native.Mathlib.Nat.{mod-add-mod}
 use native.Mathlib.Omega.{arith}
 use lib.Dec.{ltb, eqb}
@@ -24,7 +24,7 @@ use Rattle.rules.specs.Numbers.Laws.{wire-below, distance-is-dist}
 use Rattle.rules.specs.Sender.{Sender, sentOf}
 use Rattle.rules.specs.Losses as rules
 use Rattle.rules.specs.Losses.{Item, Words, items, bad, before, isRange, parse, wordsOf, LossKind, Added, Ignored, Dropped, LossRun, kindBy, kindOf, reach, stretch, itemRuns, runsOf, endOf, sameKind, meets, glue, joined}
-use Rattle.words.specs.Runs.{codeOf, kindAt, reachBy, reachAt, runAt, stretchAt, itemRunsAt, runsAt, merged, add, addAll, itemsOf}
+use Rattle.words.specs.Runs.{codeOf, kindAt, reachBy, reachAt, stretchAt, itemRunsAt, runsAt, merged, add, addAll, itemsOf}
 
 pub record Sends (s : Sender) (f n : ℕ) : Type 0 where
   pub front : f ≡ wire (s .front)
@@ -78,10 +78,6 @@ module _ {s : Sender} {f n : ℕ} (S : Sends s f n) where
   reachBy-is m h Added = rw (from-front m h, S .sent)
   reachBy-is m h Ignored = rw (from-next m h)
   reachBy-is m h Dropped = rw (from-front m h)
-
-  pub reachAt-is : (m : ℕ) → m < 2 ^ 31 → reachAt f n m ≡ reach s m
-  unfolding reach
-  reachAt-is m h = rw (kindAt-is m h) (reachBy-is m h (kindOf s m))
 
   pub stretchAt-is : (i m k : ℕ) → m < 2 ^ 31 → stretchAt f n i m k ≡ stretch s i m k
   unfolding stretchAt stretch reach
@@ -204,26 +200,3 @@ pub addAll-append : (rs ps qs : List LossRun) → addAll rs (ps ++ qs) ≡ addAl
 unfolding addAll
 addAll-append rs [] qs = refl
 addAll-append rs (p ∷ ps) qs = addAll-append (add rs p) ps qs
-
--- ## How many
-
-pub add-few : (rs : List LossRun) (q : LossRun) → length (add rs q) ≤ length rs + 1
-unfolding add
-add-few [] q = omega arith
-add-few (r ∷ []) q = go (meets r q)
-  where
-    go : (b : Bool) → length (cond b (merged r q ∷ []) (r ∷ q ∷ [])) ≤ 1 + 1
-    go true = omega arith
-    go false = omega arith
-add-few (r ∷ p ∷ rs) q = omega (arith, add-few (p ∷ rs) q)
-
-pub addAll-few : (rs qs : List LossRun) → length (addAll rs qs) ≤ length rs + length qs
-unfolding addAll
-addAll-few rs [] = omega arith
-addAll-few rs (q ∷ qs) = omega (arith, add-few rs q, addAll-few (add rs q) qs)
-
-pub stretchAt-few : (f n i m k : ℕ) → length (stretchAt f n i m k) ≤ i
-unfolding stretchAt
-stretchAt-few f n zero m k = omega arith
-stretchAt-few f n (suc i) m zero = omega arith
-stretchAt-few f n (suc i) m (suc k) = suc-le-suc (stretchAt-few f n i (plus seqs m (runAt f n m (suc k) .count)) (suc k - runAt f n m (suc k) .count))

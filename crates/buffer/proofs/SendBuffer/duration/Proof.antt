@@ -6,7 +6,6 @@ use borrow.Author.Needs.{needs}
 use Rattle.buffer.specs.State.Reports.{time-none, time-some}
 use Rattle.buffer.proofs.SendBuffer.duration.Statement.{statement}
 use Rattle.buffer.proofs.SendBuffer.duration.Tie as tie
-use Rattle.buffer.proofs.SendBuffer.duration.Reads as reads
 
 returns : tie.Need-returns
 returns c = sym (time-none _ _ (omega arith))

@@ -3,7 +3,6 @@
 use borrow.Author.Needs.{needs}
 use Rattle.buffer.proofs.SendBuffer.new.Statement.{statement}
 use Rattle.buffer.proofs.SendBuffer.new.Tie as tie
-use Rattle.buffer.proofs.SendBuffer.new.Reads as reads
 
 capacity-requires : tie.Need-capacity-requires
 capacity-requires c κs = search needs

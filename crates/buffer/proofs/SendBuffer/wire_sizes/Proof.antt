@@ -10,7 +10,6 @@ use Rattle.buffer.specs.State.{settingsOf, packetsOf}
 use Rattle.buffer.specs.State.View.{sizes-none, sizes-more}
 use Rattle.buffer.proofs.SendBuffer.wire_sizes.Statement.{statement}
 use Rattle.buffer.proofs.SendBuffer.wire_sizes.Tie as tie
-use Rattle.buffer.proofs.SendBuffer.wire_sizes.Reads as reads
 
 abbrev Inv-loop : tie.InvT-loop
 Inv-loop c ring k at sum₀ i₀ sum i =

@@ -2,29 +2,26 @@
 --   stands-keeps, keeps-stands      the area's check is that of the rules, both ways: a list that keeps them stands for the numbers `seen`
 --   keeps-ascends                   and those ascend, as the rules ask
 --   ascends-few                     a list between two bounds is no longer than they are apart
---   enter-fits                      sent numbers have room in an area of as many elements
 -- Assumes nothing.
 use mathlib.Core.Path.{_≡_, refl, sym, ap, _∙_}
 use mathlib.Core.Bool.{true, and-eq-true-iff}
 use mathlib.Core.List.{List, [], _∷_, _++_, append-nil}
-use Prim.Native.Nat.{ℕ, suc, _+_, _-_, _^_, _≤_, _<_, zero-le}
+use Prim.Native.Nat.{ℕ, suc, _+_, _-_, _^_, _≤_, zero-le}
 use native.Mathlib.Omega.{arith}
 use lib.Dec.{ltb}
-use lib.ListN.{length, take}
-use lib.Seq.{append-snoc, length-take-le}
+use lib.ListN.{length}
+use lib.Seq.{append-snoc}
 use borrow.Author.Tests.{lt-ltb, le-leb, ltb-true}
 use Rattle.numbers.specs.Modular.{seqs}
 use Rattle.numbers.specs.Modular.Laws.{plus-dist}
 use Rattle.rules.specs.Numbers.{wire}
 use Rattle.rules.specs.Numbers.Laws.{wire-below}
-use Rattle.rules.specs.Losses as losses
 use Rattle.rules.specs.Books as books
 use Rattle.rules.specs.Books.Laws.{Ascends}
 use Rattle.rules.proofs.Lists.{widen}
-use Rattle.losses.specs.LossList.{entered, inOrder, descends}
-use Rattle.losses.specs.LossList.Laws.{Fits}
-use Rattle.losses.specs.LossList.Runs.{ascends-snoc, entered-ascends}
-use Rattle.losses.specs.LossList.Stands.{keyOf, farFirst, Stands, seen, key-wire, wire-plus, stands-length, far-snoc, stands-entered, stands-grows}
+use Rattle.losses.specs.LossList.{inOrder, descends}
+use Rattle.losses.specs.LossList.Runs.{ascends-snoc}
+use Rattle.losses.specs.LossList.Stands.{keyOf, farFirst, Stands, seen, key-wire, wire-plus, far-snoc}
 
 -- ## The book rules
 
@@ -79,15 +76,3 @@ module _ (f hi : ℕ) (xs : List ℕ) (e : descends (keyOf f) hi xs ≡ true) wh
 pub ascends-few : (lo hi : ℕ) (xs : List ℕ) → Ascends lo hi xs → length xs ≤ hi - lo
 ascends-few lo hi [] a = zero-le
 ascends-few lo hi (x ∷ xs) a = omega (arith, ascends-few (suc x) hi xs (a .2))
-
-pub enter-fits : (f n k sent len : ℕ) {lost : List ℕ} (e : List ℕ) → sent < 2 ^ 31 → sent ≤ length e → len ≤ length e → f ≤ n → n + k ≤ f + sent
-    → Ascends f (f + sent) lost → Stands lost f (take len e) → Fits len (entered (keyOf f) (wire n) k (take len e)) e
-enter-fits f n k sent len {lost} e few room inside low high a S = record {
-  inside = inside;
-  grows = let g = stands-grows f n k low (omega arith) S in omega (arith, g, length-take-le len e inside);
-  room = omega (
-    arith,
-    stands-length (stands-entered f n k low (omega arith) S),
-    ascends-few f (f + sent) (losses.entered n k lost) (entered-ascends f (f + sent) n k lost low high a),
-  );
-}

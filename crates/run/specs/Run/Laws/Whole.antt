@@ -4,27 +4,26 @@
 --   loop-stands, run-stands     the turns; the run
 -- Assumes nothing.
 use mathlib.Core.Path.{_≡_, refl, sym, ap, _∙_, subst}
-use mathlib.Core.Bool.{Bool, true, false, cond}
-use mathlib.Core.List.{List, [], _∷_, _++_}
-use Prim.Native.Nat.{ℕ, zero, suc, _+_, _-_, _*_, _^_, _≤_, _<_, min}
+use mathlib.Core.Bool.{Bool, true, false}
+use mathlib.Core.List.{List}
+use Prim.Native.Nat.{ℕ, zero, suc, _+_, _-_, _^_, _≤_, _<_}
 use native.Mathlib.Omega.{arith}
 use lib.ListN.{length, length-append}
-use lib.Seq.{paste}
 use Rattle.rules.specs.Settings.{Settings}
 use Rattle.rules.specs.Sender.{Sender}
 use Rattle.rules.specs.Books.Laws.{Kept}
-use Rattle.rules.specs.Records.{Action, sends, encode}
+use Rattle.rules.specs.Records.{Action, sends}
 use Rattle.rules.specs.Run as Rules
 use Rattle.rules.specs.Run.{Turn, Result, others, late}
 use Rattle.rules.specs.Run.Laws as rules
 use Rattle.rules.proofs.Frame.{late-le}
 use Rattle.rules.proofs.RunKept.{others-kept, dropped-kept}
 use Rattle.rules.proofs.Split.{run-is, loop-end, loop-on}
-use Rattle.buffer.specs.State.{State, view}
+use Rattle.buffer.specs.State.{State}
 use Rattle.buffer.specs.State.Stands.{Stands}
 use Rattle.sending.specs.Sending.{Turned, dropped, written}
 use Rattle.run.specs.Run.{World, turn, after, loop, sweptBy, swept, run}
-use Rattle.sending.specs.Sending.Rules.{written-append}
+use Rattle.sending.specs.Sending.Laws.{written-append}
 use Rattle.sending.specs.Sending.Stands.{TurnStands, stands-dropped}
 use Rattle.run.specs.Run.Laws.{turn-stands}
 
