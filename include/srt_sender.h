@@ -2,13 +2,14 @@
  *
  * It does no I/O, reads no clock, takes no heap, and keeps no pointer from one call to the next. The host brings the
  * time, lends the memory at each call, and sends the packets that it is told to send. A sender is a plain struct that
- * the host keeps; two senders share nothing, and a sender may be copied. Encryption, the handshake and the receiver
- * are not here.
+ * the host keeps, with three areas of memory; two senders share nothing, and one may be copied with its areas. Sockets,
+ * the handshake, encryption and the receiver are not here.
  *
  * Any numbers may be given: each call checks what it is given, the kept struct and the lent areas too, and returns 0,
  * or the number of the refusal, the lowest that applies. A refusal changes nothing kept or lent, with one exception:
  * SRT_STALE_FULL_ACK keeps the round-trip time that the ACK brought. What can't be checked is a pointer: it must point
- * to as many elements as its length says, and the areas of one call must not overlap. NULL is an area of length 0.
+ * to as many elements as its length says, and the areas of one call must not overlap. NULL is an area, or a list for an
+ * answer, of length 0, whatever its length says; a message or a loss report may be NULL only where its length is 0.
  *
  * A session in short:
  *     srt_sender_new      once
@@ -42,7 +43,7 @@ enum srt_refusal_number {
     SRT_EMPTY = 9,           /* an ACK, and nothing is buffered */
     SRT_INVALID_ACK = 10,    /* an ACK outside front to next unsent: its number, the front, next unsent */
     SRT_STALE_FULL_ACK = 11, /* a full number below the expected one: that number, the expected one */
-    SRT_BAD_NAK = 12,        /* loss words malformed or over SRT_WORDS_MOST: the first bad item's word, from 0 */
+    SRT_BAD_NAK = 12,        /* loss words malformed: the first bad item's first word, from 0; or too many: 512 */
     SRT_NO_ROOM = 13,        /* a lent list for the answer is too short */
     SRT_NOT_HELD = 14        /* a payload that isn't held is asked for */
 };
@@ -50,7 +51,7 @@ enum srt_refusal_number {
 /* How the allowed rate is found. */
 enum srt_mode {
     SRT_MODE_INPUT = 0,     /* rate and overhead: the set rate, with the overhead in percent on top */
-    SRT_MODE_ESTIMATED = 1, /* rate and overhead: the rate expected, or the measured one where that is more */
+    SRT_MODE_ESTIMATED = 1, /* the same of the rate expected, or of the measured one where that is more */
     SRT_MODE_MAX = 2,       /* rate: the most that may be sent; overhead is 0 */
     SRT_MODE_UNLIMITED = 3  /* 125,000,000 bytes per second; rate and overhead are 0 */
 };
@@ -71,8 +72,8 @@ enum srt_place { SRT_PLACE_MIDDLE = 0, SRT_PLACE_LAST = 1, SRT_PLACE_FIRST = 2, 
 /* What became of the numbers of a loss report. */
 enum srt_loss_kind {
     SRT_ADDED = 1,   /* buffered and sent: on the loss list now */
-    SRT_IGNORED = 2, /* not sent yet */
-    SRT_DROPPED = 3  /* no longer buffered */
+    SRT_IGNORED = 2, /* not sent yet: less than 2^30 from next unsent on */
+    SRT_DROPPED = 3  /* all others: no longer buffered */
 };
 
 #define SRT_SIZE_MOST 1456u        /* bytes of a packet's payload */
@@ -93,7 +94,7 @@ enum srt_loss_kind {
 #define SRT_LOST_WORDS(buffer) (SRT_CAPACITY(buffer))                        /* of uint32_t */
 #define SRT_STORE_BYTES(buffer, size) (SRT_CAPACITY(buffer) * (size_t)(size)) /* of uint8_t */
 
-/* The list of records of a run: 24 x (min(budget, buffered) + 3). With |buffered| the setting it suffices always. */
+/* The list of records of a run: 24 x (min(budget, buffered) + 3). SRT_CAPACITY is the most that may be buffered. */
 #define SRT_RECORDS_BYTES(budget, buffered) \
     (((size_t)(budget) < (size_t)(buffered) ? (size_t)(budget) : (size_t)(buffered)) * 24 + 72)
 
@@ -145,7 +146,7 @@ struct srt_books {
     uint32_t sent;        /* how many packets are sent, from the front on: next unsent is front + sent */
     size_t lost;          /* how many numbers are on the loss list */
     uint64_t bytes;       /* the byte count */
-    struct srt_rtt rtt;   /* the last round-trip time that an ACK brought */
+    struct srt_rtt rtt;   /* the last round-trip time that an ACK brought; at the start 100,000 and 50,000 */
     uint64_t expected;    /* the lowest full number that isn't stale, 1 to 2^32 */
     struct srt_held held;
     uint32_t message;     /* the number that the next message gets */
@@ -207,7 +208,7 @@ struct srt_timers {
     struct srt_timer full_ack; /* a full ACK is due (for a receiver) */
     struct srt_timer nak;      /* a loss report is due (for a receiver) */
     struct srt_timer exp;      /* nothing was heard of the peer */
-    uint32_t exp_count;        /* how often exp has expired since the peer was heard, plus 1; 1 to 2^32 - 1 */
+    uint32_t exp_count;        /* 1 to 2^32 - 1: srt_timers_check_peer_idle_timeout says when it goes up */
     struct srt_timer peer_idle;
     struct srt_timer statistics;
 };
@@ -248,13 +249,14 @@ struct srt_reports {
     bool has_packets_to_send; /* a packet is unsent, or a number on the loss list */
     size_t len;               /* buffered packets */
     uint64_t len_bytes;       /* the byte count */
-    uint64_t duration;        /* the back packet's time less the front's in microseconds, 0 where negative */
+    uint64_t duration;        /* the back packet's time less the front's, microseconds; 0 where negative or empty */
 };
 
 /* ---- The entries of the library -------------------------------------------------------------------------------- */
 
-/* They take what is kept and give it back; a refused call gives back what it was given. The functions below wrap them
- * in the usual shape, and a host has no need to call them itself. A pointer must not be NULL. */
+/* They take what is kept and give it back; a refused call gives back what it was given (srt_entry_ack's refusal
+ * SRT_STALE_FULL_ACK with the new round-trip time), and zeros for its answer. The functions below wrap them in the
+ * usual shape, and a host has no need to call them itself. A pointer must not be NULL. */
 
 struct srt_new_answer {
     struct srt_refusal refusal;
@@ -298,7 +300,7 @@ struct srt_reports_answer {
 struct srt_timers_answer {
     uint32_t refusal;
     uint32_t periods;
-    struct srt_timers timers;
+    struct srt_timers timers; /* zeros where srt_entry_timers_new is refused */
 };
 
 struct srt_nanoseconds_answer {
@@ -309,17 +311,17 @@ struct srt_nanoseconds_answer {
 struct srt_new_answer srt_entry_new(struct srt_settings settings, uint32_t mode, uint64_t rate, uint64_t overhead);
 struct srt_message_answer srt_entry_message(struct srt_sender given, uint64_t time, uint64_t now,
                                             const uint8_t *payload, size_t payload_len, uint64_t *ring,
-                                            size_t ring_len, uint32_t *lost, size_t lost_len, uint8_t *store,
+                                            size_t ring_len, const uint32_t *lost, size_t lost_len, uint8_t *store,
                                             size_t store_len);
 struct srt_ack_answer srt_entry_ack(struct srt_sender given, uint32_t number, bool full, uint32_t full_number,
                                     bool measured, struct srt_rtt rtt, const uint64_t *ring, size_t ring_len,
-                                    uint32_t *lost, size_t lost_len);
+                                    const uint32_t *lost, size_t lost_len);
 struct srt_nak_answer srt_entry_nak(struct srt_sender given, const uint32_t *words, size_t words_len,
                                     const uint64_t *ring, size_t ring_len, uint32_t *lost, size_t lost_len,
                                     uint32_t *out, size_t out_len);
 struct srt_run_answer srt_entry_run(struct srt_sender given, uint64_t now, uint32_t budget, bool draining,
-                                    uint64_t *ring, size_t ring_len, uint32_t *lost, size_t lost_len, uint8_t *out,
-                                    size_t out_len);
+                                    uint64_t *ring, size_t ring_len, const uint32_t *lost, size_t lost_len,
+                                    uint8_t *out, size_t out_len);
 struct srt_payload_answer srt_entry_payload(struct srt_sender given, uint32_t number, const uint64_t *ring,
                                             size_t ring_len, const uint32_t *lost, size_t lost_len,
                                             const uint8_t *store, size_t store_len);
@@ -398,8 +400,9 @@ static inline int srt_sender_new(struct srt_sender *s, const struct srt_settings
     return srt_told(r.refusal, why);
 }
 
-/* Takes the message |payload| of |len| bytes, of |time|, brought at |now|, as one packet or more. Where the buffer is
- * full the front packets go. |payload| may be NULL where |len| is 0; it becomes one empty packet. Works in all areas.
+/* Takes the message |payload| of |len| bytes, of |time|, brought at |now|, as one packet or more; one of 0 bytes, whose
+ * |payload| may be NULL, becomes an empty packet. Where the buffer is full the front packets go. Writes to ring and
+ * store, reads lost.
  * Returns 0, or:
  *   SRT_BAD_STORE    an area is shorter than the kept settings ask for
  *   SRT_BAD_STATE    what is kept breaks a book rule
@@ -425,7 +428,7 @@ static inline int srt_sender_message(struct srt_sender *s, const struct srt_area
 }
 
 /* Takes an ACK of |number|: all packets before it have arrived. |full| is the full number that it brings, |rtt| the
- * round-trip time; NULL for none, as in a light ACK. Works in ring (reads) and lost.
+ * round-trip time; NULL for none, as in a light ACK. Reads ring and lost.
  * Returns 0, or:
  *   SRT_BAD_STORE       ring or lost is shorter than the kept settings ask for
  *   SRT_BAD_STATE       what is kept breaks a book rule
@@ -457,8 +460,7 @@ static inline int srt_sender_ack(struct srt_sender *s, const struct srt_areas *l
 
 /* Takes a loss report of |words_len| words: a number, or the first of a range with the top bit set and then its last.
  * |*answer| is how many runs |runs| holds then, in the report's order: read them with srt_loss_run_at. |words| may be
- * NULL where |words_len| is 0. |runs| has |runs_len| words; those after the last run stay. Works in ring (reads) and
- * lost.
+ * NULL where |words_len| is 0. |runs| has |runs_len| words; those after the last run stay. Reads ring, writes to lost.
  * Returns 0, or:
  *   SRT_BAD_STORE   ring or lost is shorter than the kept settings ask for
  *   SRT_BAD_STATE   what is kept breaks a book rule
@@ -483,9 +485,10 @@ static inline int srt_sender_nak(struct srt_sender *s, const struct srt_areas *l
     return srt_told(r.refusal, why);
 }
 
-/* Says what to send at |now|, at most |budget| packets and one more where its number divides by 16. |draining|: no
- * message will come any more, so the last packet is flushed. |out| has |out_len| bytes and holds answer->records
- * records of 24 bytes then: read them with srt_action_at; bytes after the last record stay. Works in ring and lost.
+/* Says what to send at |now|: at most |budget| packets, and one more where its number divides by 16; none for a budget
+ * of 0. |draining|: no message will come any more, so the last packet is flushed. |out| has |out_len| bytes and holds
+ * answer->records records of 24 bytes then: read them with srt_action_at; bytes after the last record stay. Writes to
+ * ring, reads lost.
  * Returns 0, or:
  *   SRT_BAD_STORE   ring or lost is shorter than the kept settings ask for
  *   SRT_BAD_STATE   what is kept breaks a book rule
@@ -626,8 +629,8 @@ static inline void srt_action_header(uint8_t *out, const struct srt_action *a, u
 
 /* ---- The timers' calls ----------------------------------------------------------------------------------------- */
 
-/* Times and periods are nanoseconds. |*periods| and |*wake| are written where the call is accepted; |periods| may be
- * NULL. A refusal leaves them and |*t| as they were. No refusal of theirs has values, so there is no |why|. */
+/* Times and periods are nanoseconds. |*periods| and |*wake| are written where the call is accepted, and either pointer
+ * may be NULL. A refusal leaves them and |*t| as they were. No refusal of theirs has values, so there is no |why|. */
 
 /* Makes |*t| the timers at their start, with the periods |statistics| and |idle|; one below 1,000 is raised to it.
  * Returns 0, or:
@@ -638,12 +641,12 @@ static inline int srt_timers_new(struct srt_timers *t, uint64_t now, uint64_t st
     return srt_timers_left(t, srt_entry_timers_new(now, statistics, idle), NULL);
 }
 
-/* |*wake| = when the host must wake at the latest, never before |now|. |packets|: whether there are packets to send,
- * as srt_sender_reports says; |message|: when the next message will be brought, NULL where that is unknown; |unacked|:
- * how many packets wait for an ACK of this host's: it brings in the ACK timer, a receiver's, and a host that only sends
- * gives 0. Ask again after every other call. On waking check SND, ACK, NAK and EXP, also
- * those that the host has no use for: a timer that expired and is not checked keeps the wake-up at |now|. It does not
- * see when a packet is due to be sent again: NAK and EXP wake the host for that.
+/* |*wake| = when the host must wake at the latest, never before |now|: at NAK's or EXP's time, at SND's where there are
+ * |packets| to send, as srt_sender_reports says, at |*message|, when the next message will be brought (NULL where that
+ * is unknown), or at ACK's where packets wait for an ACK of this host's: |unacked| of them, 0 for a host that only
+ * sends. Ask again after every other call. On waking check each timer that may have woken the host, also NAK and EXP
+ * where it has no use for them: one that expired and is not checked keeps the wake-up at |now|. When a packet is due to
+ * be sent again isn't seen here: NAK and EXP wake the host for that.
  * Returns 0, or:
  *   SRT_BAD_STATE   what is kept breaks a book rule
  *   SRT_BAD_TIME    |now| or |*message| is 2^58 or more */
@@ -657,8 +660,8 @@ static inline int srt_timers_next_timer(const struct srt_timers *t, uint64_t now
     return (int)r.refusal;
 }
 
-/* The checks: |*periods| = how many periods of the timer have elapsed at |now|, 0 for none, and its origin moves on by
- * so many. A period of 0 answers 1 always. Each returns 0, or:
+/* The checks: |*periods| = how many periods of the timer have elapsed at |now|, 0 for none, at most 2^32 - 1, and its
+ * origin moves on by so many. A period of 0 answers 1 always. Each returns 0, or:
  *   SRT_BAD_STATE   what is kept breaks a book rule
  *   SRT_BAD_TIME    |now| is 2^58 or more */
 
@@ -687,7 +690,8 @@ static inline int srt_timers_check_statistics(struct srt_timers *t, uint64_t now
 }
 
 /* EXP, and the idle timer behind it: |*periods| is not 0 where the peer has been silent for too long. Where EXP has
- * expired the idle timer moves on, but it is heard only from an EXP count of 17 on; until then the count goes up. */
+ * expired the idle timer is checked, but it is heard only from an EXP count of 17 on; where it isn't the count goes
+ * up. */
 static inline int srt_timers_check_peer_idle_timeout(struct srt_timers *t, uint64_t now, uint32_t *periods)
 {
     return srt_timers_left(t, srt_entry_timers_check_peer_idle_timeout(*t, now), periods);

@@ -7,13 +7,11 @@
 --   judge len front sent n    refusals 9 and 10, over the number of packets, the front's number and how many are sent; judgeOn   on the books
 --   takeRtt rtt st            the round-trip time taken over
 --   acknowledged c d full st  d packets acknowledged
---   Left, left                the call's answer, and the loss area, which is only read, as the ring is
---   refused, done, update     a refused ACK, an accepted one; the call
+--   refused, done, update     a refused ACK, an accepted one; the call. The lent areas are only read
 --   verdictOf, booksOf, saidOf   an answer's verdict, its books, and what it says, as the rules have them
 -- Assumes nothing.
 pub mod Laws
 pub mod Stands
-use mathlib.Core.List.{List}
 use mathlib.Core.Option.{Option, none, some}
 use Prim.Native.Nat.{ℕ, _-_}
 use lib.Dec.{ltb, eqb}
@@ -81,22 +79,13 @@ acknowledged c d full st =
     let b = removed d (st .books .bytes - wireSizes c (take d (view st))) st in
     state (with (b .books) (b .books .rtt) (expect (fullOf full) (b .books .expected))) (b .ring) (b .lost)
 
-pub record Left : Type 0 where
-  pub answer : Acked
-  pub lost : List ℕ
+abbrev pub refused : State → Refusal → Acked
+refused st r = acked.Refused (st .books) r
 
-abbrev pub left : Acked → List ℕ → Left
-left answer lost = record { answer = answer; lost = lost }
+unfoldable pub done : Settings → ℕ → FullAck → State → Acked
+done c d full st = acked.Done (acknowledged c d full st .books) (record { received = d; recovered = going d st; «send_ack2» = full })
 
-abbrev pub refused : State → Refusal → Left
-refused st r = left (acked.Refused (st .books) r) (st .lost)
-
-unfoldable pub done : Settings → ℕ → FullAck → State → Left
-done c d full st =
-    let after = acknowledged c d full st in
-    left (acked.Done (after .books) (record { received = d; recovered = going d st; «send_ack2» = full })) (after .lost)
-
-unfoldable pub update : Settings → SeqNumber → FullAck → AckRtt → State → Left
+unfoldable pub update : Settings → SeqNumber → FullAck → AckRtt → State → Acked
 update c n full rtt st =
     let taken = takeRtt rtt st in
     answer (refused st) (judgeOn n st)

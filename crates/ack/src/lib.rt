@@ -3,7 +3,7 @@ ghost use mathlib.Core.Path.{_≡_};
 ghost use Rattle.rules.specs.Ack.{given, expect};
 ghost use Rattle.rules.specs.Refusals.{fullVerdict};
 ghost use Rattle.buffer.specs.State.{settingsOf, state};
-ghost use Rattle.ack.specs.Ack.{fullOf, rttOf, with, judge, left, done, update};
+ghost use Rattle.ack.specs.Ack.{fullOf, rttOf, with, judge, done, update};
 ghost use Rattle.ack.specs.Ack.Laws.{Acceptable, Asked};
 use buffer::SendBuffer;
 use buffer::Settings;
@@ -61,21 +61,10 @@ fn expect(full_ack: FullAck, expected: u64) -> u64
 fn with(b: SendBuffer, rtt: Rtt, expected: u64) -> SendBuffer
     ensures { λ r. ⌜ r ≡ with b rtt expected ⌝ }
 {
-    let ring = b.ring;
-    let front = b.front;
-    let message = b.message;
-    let flushed = b.flushed;
-    SendBuffer {
-        ring,
-        front,
-        sent: b.sent,
-        lost: b.lost,
-        bytes: b.bytes,
-        rtt,
-        message,
-        expected,
-        flushed,
-    }
+    let mut after = b;
+    after.rtt = rtt;
+    after.expected = expected;
+    after
 }
 
 // Refuses Empty and InvalidAck.
@@ -123,7 +112,7 @@ fn acknowledge(
     lost: &[u32],
 ) -> Acked
     requires { ⌜ Acceptable (settingsOf c) (state b (now ring) (now lost)) d ⌝ }
-    ensures { λ r. ⌜ left r (now (lost .entry)) ≡ done (settingsOf c) d «full_ack» (state b (now (ring .entry)) (now (lost .entry))) ⌝ }
+    ensures { λ r. ⌜ r ≡ done (settingsOf c) d «full_ack» (state b (now (ring .entry)) (now (lost .entry))) ⌝ }
 {
     let gone = b.wire_sizes(c, ring, d as usize);
     let after = b.remove(lost, d as usize, b.bytes - gone);
@@ -151,7 +140,7 @@ pub fn update_largest_acked_seq_number(
     lost: &[u32],
 ) -> Acked
     requires { ⌜ Asked (settingsOf c) (state b (now ring) (now lost)) («ack_number» .0) rtt ⌝ }
-    ensures { λ r. ⌜ left r (now (lost .entry)) ≡ update (settingsOf c) «ack_number» «full_ack» rtt (state b (now (ring .entry)) (now (lost .entry))) ⌝ }
+    ensures { λ r. ⌜ r ≡ update (settingsOf c) «ack_number» «full_ack» rtt (state b (now (ring .entry)) (now (lost .entry))) ⌝ }
 {
     match judge(b, ack_number) {
         Verdict::Refused(r) => Acked::Refused(b, r),

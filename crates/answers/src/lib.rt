@@ -14,6 +14,7 @@ use numbers::SeqNumber;
 use refusals::Refusal;
 use refusals::Verdict;
 use sender::Sender;
+use sender::judging;
 use words::Report;
 
 // The answer of `nak`: the sender from then on, and how many runs the lent list holds. Where it is refused the caller's sender stands.
@@ -64,9 +65,9 @@ fn judge_words(words: &[u32], room: usize) -> Verdict
 fn judge_nak(s: Sender, words: &[u32], ring: &[u64], lost: &[u32], room: usize) -> Verdict
     ensures { λ r. ⌜ r ≡ nakVerdict (books s (now (ring .entry)) (now (lost .entry))) (now (words .entry)) room ⌝ }
 {
-    let short = sender::areas_short(s.settings, ring.len(), lost.len());
-    let state = sender::judge(s, ring, lost, short);
-    sender::then(state, judge_words(words, room))
+    let short = judging::areas_short(s.settings, ring.len(), lost.len());
+    let state = judging::judge(s, ring, lost, short);
+    judging::then(state, judge_words(words, room))
 }
 
 // A loss report; the runs of the answer go to `out`. Refuses BadStore, BadState, BadNak and NoRoom.
@@ -144,9 +145,9 @@ fn judge_payload(s: Sender, number: u32, ring: &[u64], lost: &[u32], store: usiz
     ensures { λ r. ⌜ r ≡ payloadVerdict (books s (now (ring .entry)) (now (lost .entry))) number store ⌝ }
 {
     let c = s.settings;
-    let short = sender::areas_short(c, ring.len(), lost.len()) | sender::store_short(c, store);
-    let state = sender::judge(s, ring, lost, short);
-    sender::then(
+    let short = judging::areas_short(c, ring.len(), lost.len()) | judging::store_short(c, store);
+    let state = judging::judge(s, ring, lost, short);
+    judging::then(
         state,
         refusals::when(0x8000_0000 <= number, Refusal::BadNumber, Verdict::Accepted),
     )
@@ -166,8 +167,8 @@ pub fn payload(s: Sender, number: u32, ring: &[u64], lost: &[u32], store: &[u8])
 pub fn reports(s: Sender, ring: &[u64], lost: &[u32]) -> Told
     ensures { λ r. ⌜ r ≡ reports (books s (now (ring .entry)) (now (lost .entry))) ⌝ }
 {
-    let short = sender::areas_short(s.settings, ring.len(), lost.len());
-    match sender::judge(s, ring, lost, short) {
+    let short = judging::areas_short(s.settings, ring.len(), lost.len());
+    match judging::judge(s, ring, lost, short) {
         Verdict::Refused(r) => Told::Refused(r),
         Verdict::Accepted => {
             let b = s.buffer;

@@ -1,8 +1,7 @@
 -- What each number stands for, computed from the definitions, so that one that is wrong in code and specs alike is refused.
 -- Assumes nothing.
 use mathlib.Core.Path.{_≡_, refl}
-use mathlib.Core.Bool.{true}
-use mathlib.Core.List.{List, [], _∷_, map}
+use mathlib.Core.List.{[], _∷_, map}
 use Prim.Native.Nat.{ℕ}
 use Rattle.numbers.specs.declared.SeqNumber.{SeqNumber}
 use Rattle.pacing.specs.declared.options.LiveBandwidthMode.the-variants.{Input, Estimated, Max, Unlimited}
@@ -11,7 +10,7 @@ use Rattle.refusals.specs.declared.Refusal.the-variants.{BadState, InvalidAck, 
 use Rattle.buffer.specs.declared.Flushed.the-variants.{Nothing, Held}
 use Rattle.answers.specs.declared.Found.the-variants as found
 use Rattle.flat.specs.Senders.{flushedOf, nextOf, modeOf, codeFrom}
-use Rattle.flat.specs.Replies.{refusal, refusedOf, fullOf, payloadOf}
+use Rattle.flat.specs.Replies.{refusal, refusedOf, payloadOf}
 
 abbrev number : ℕ → SeqNumber
 number n = record { 0 = n }

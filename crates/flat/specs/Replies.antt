@@ -38,14 +38,14 @@ use Rattle.answers.specs.declared.Told.the-variants as told
 use Rattle.sender_run.specs.declared.Ran.{Ran}
 use Rattle.sender_run.specs.declared.Ran.the-variants as ran
 use Rattle.flat.specs.declared.senders.FlatSender.{FlatSender}
-use Rattle.flat.specs.declared.replies.Refused.{Refused}
-use Rattle.flat.specs.declared.replies.NewAnswer.{NewAnswer}
+use Rattle.flat.specs.declared.refused.Refused.{Refused}
+use Rattle.flat.specs.declared.starts.NewAnswer.{NewAnswer}
 use Rattle.flat.specs.declared.replies.MessageAnswer.{MessageAnswer}
-use Rattle.flat.specs.declared.replies.AckAnswer.{AckAnswer}
+use Rattle.flat.specs.declared.acks.AckAnswer.{AckAnswer}
 use Rattle.flat.specs.declared.replies.NakAnswer.{NakAnswer}
 use Rattle.flat.specs.declared.replies.RunAnswer.{RunAnswer}
-use Rattle.flat.specs.declared.replies.PayloadAnswer.{PayloadAnswer}
-use Rattle.flat.specs.declared.replies.ReportsAnswer.{ReportsAnswer}
+use Rattle.flat.specs.declared.questions.PayloadAnswer.{PayloadAnswer}
+use Rattle.flat.specs.declared.questions.ReportsAnswer.{ReportsAnswer}
 use Rattle.flat.specs.Senders.{flatFrom}
 
 abbrev pub refusal : ℕ → ℕ → ℕ → ℕ → Refused

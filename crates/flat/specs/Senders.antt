@@ -9,7 +9,7 @@
 -- Assumes nothing.
 pub mod Laws
 use mathlib.Core.Bool.{cond, _&&_}
-use Prim.Native.Nat.{ℕ, _-_, _^_}
+use Prim.Native.Nat.{ℕ}
 use lib.Dec.{eqb}
 use Rattle.pacing.specs.declared.options.LiveBandwidthMode.{LiveBandwidthMode}
 use Rattle.pacing.specs.declared.options.LiveBandwidthMode.the-variants.{Input, Estimated, Max, Unlimited}
@@ -23,7 +23,7 @@ use Rattle.buffer.specs.declared.SendBuffer.{SendBuffer}
 use Rattle.sender.specs.declared.Sender.{Sender}
 use Rattle.flat.specs.declared.senders.HeldPacket.{HeldPacket}
 use Rattle.flat.specs.declared.senders.FlatBooks.{FlatBooks}
-use Rattle.flat.specs.declared.senders.FlatPacing.{FlatPacing}
+use Rattle.flat.specs.declared.pacings.FlatPacing.{FlatPacing}
 use Rattle.flat.specs.declared.senders.FlatSender.{FlatSender}
 
 -- ## The flushed packet

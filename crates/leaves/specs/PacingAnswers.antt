@@ -12,7 +12,7 @@ use Rattle.pacing.specs.declared.Paced.{Paced}
 use Rattle.pacing.specs.declared.Paced.the-variants as pace
 use Rattle.pacing.specs.Books as books
 use Rattle.pacing.specs.Pacing.{onInput}
-use Rattle.flat.specs.declared.senders.FlatPacing.{FlatPacing}
+use Rattle.flat.specs.declared.pacings.FlatPacing.{FlatPacing}
 use Rattle.flat.specs.Senders.{modeOf, controlOf, pacingFrom}
 use Rattle.leaves.specs.declared.of_pacing.PacingAnswer.{PacingAnswer}
 

@@ -1,9 +1,9 @@
 // Live pacing by itself. What it keeps crosses as a host's sender has it.
 ghost use mathlib.Core.Path.{_≡_};
 ghost use Rattle.leaves.specs.PacingAnswers.{fresh, pacingMade, pacingPaced, pacingNew, pacingOnInput};
-use flat::senders::FlatPacing;
-use flat::senders::mode_of;
-use flat::senders::pacing_from;
+use flat::pacings::FlatPacing;
+use flat::pacings::mode_of;
+use flat::pacings::pacing_from;
 use pacing::Made;
 use pacing::Paced;
 use pacing::SenderCongestionControl;

@@ -1,6 +1,6 @@
 -- A message on the books and the lent areas. Document 01, "Message": "It becomes max(1, ceil(length / size)) packets .. Pushing into a full
 -- buffer first removes the front packet, from the loss list too. .. Answer: packets made, packets removed, wire bytes removed"; "Byte count":
--- "Plus wire size on a push, minus on removal by a full buffer". What each of these is in the rules is said in Message.Laws.
+-- "Plus wire size on a push, minus on removal by a full buffer". That these are the rules' is in Message.OnePacket and Message.Laws.
 --   entryOf c t m len k    packet k of a message of len bytes, as its entry
 --   gone, makeRoom c st    what goes from a full buffer, and what is left; append c e st   one packet more at the back
 --   Work, World            the state with the three counts of the answer, and that with the store
@@ -10,6 +10,7 @@
 --   message                the whole message
 -- Assumes nothing.
 pub mod Laws
+pub mod OnePacket
 pub mod Parts
 pub mod Rest
 pub mod Whole

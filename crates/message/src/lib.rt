@@ -74,24 +74,12 @@ fn append(p: Pushed, c: Settings, e: Entry, ring: &mut [u64]) -> Pushed
     requires { ⌜ Appendable (settingsOf c) (p .buffer) (p .made) (now ring) e ⌝ }
     ensures { λ r. ⌜ Appended (settingsOf c) e p (now (ring .entry)) r (now (ring .exit)) ⌝ }
 {
-    let b = p.buffer;
-    let at = b.ring;
-    let front = b.front;
-    let rtt = b.rtt;
-    let message = b.message;
-    let flushed = b.flushed;
+    let mut buffer = p.buffer;
+    let at = buffer.ring;
+    buffer.ring = at.push_back(ring, e);
+    buffer.bytes = buffer.bytes + (e.len + c.overhead as u64);
     Pushed {
-        buffer: SendBuffer {
-            ring: at.push_back(ring, e),
-            front,
-            sent: b.sent,
-            lost: b.lost,
-            bytes: b.bytes + (e.len + c.overhead as u64),
-            rtt,
-            message,
-            expected: b.expected,
-            flushed,
-        },
+        buffer,
         made: p.made + 1,
         removed: p.removed,
         bytes: p.bytes,

@@ -10,7 +10,7 @@
 pub mod Always
 pub mod Coincide
 pub mod Refusals
-use mathlib.Core.List.{List, [], _∷_, map}
+use mathlib.Core.List.{List, [], _∷_}
 use Prim.Native.Nat.{ℕ, _/_, _^_, _<_}
 use mathlib.Core.Bool.{Bool}
 use lib.ListN.{length, getD}
@@ -76,8 +76,7 @@ after (message time now bytes) w =
     let l = Messages.message (w .books) time now bytes (w .store) in
     record { books = books (Message.senderAfter (w .books .sender) (l .answer)) (l .ring) (l .lost); store = l .store }
 after (ack n full rtt) w =
-    let l = Acks.ack (w .books) n full rtt in
-    record { books = books (Ack.senderAfter (l .answer)) (w .books .ring) (l .lost); store = w .store }
+    record { books = books (Ack.senderAfter (Acks.ack (w .books) n full rtt)) (w .books .ring) (w .books .lost); store = w .store }
 after (nak words list) w =
     let l = Naks.nak (w .books) words list in
     record { books = books (Nak.senderAfter (w .books .sender) (l .answer)) (w .books .ring) (l .lost); store = w .store }

@@ -1,12 +1,10 @@
 -- An ACK on the sender and its lent areas. Document 01, "ACK", and refusals 2, 3 and 7 to 11: "All stays as before; 11 alone keeps a new RTT."
 --   ackVerdict g n rtt    refusals 2, 3, 7 and 8; the others are the crate ack's
 --   acknowledged s a      the sender with the books that an ACK left
---   Acks, acks            the answer, and the loss area at its end; the ring's words are only read
---   ack                   the call
+--   ack                   the call. The lent areas are only read
 -- Assumes nothing.
 pub mod Laws
 pub mod Stands
-use mathlib.Core.List.{List}
 use Prim.Native.Nat.{ℕ, _^_}
 use lib.Dec.{leb}
 use lib.ListN.{length}
@@ -19,7 +17,7 @@ use Rattle.ack.specs.declared.FullAck.{FullAck}
 use Rattle.ack.specs.declared.AckRtt.{AckRtt}
 use Rattle.ack.specs.declared.Acked.{Acked}
 use Rattle.ack.specs.declared.Acked.the-variants as acked
-use Rattle.ack.specs.Ack.{Left, rttOf, update}
+use Rattle.ack.specs.Ack.{rttOf, update}
 use Rattle.sender.specs.declared.Sender.{Sender}
 use Rattle.sender.specs.declared.Acknowledged.{Acknowledged}
 use Rattle.sender.specs.declared.Acknowledged.the-variants as acknowledged-as
@@ -36,17 +34,7 @@ abbrev pub acknowledged : Sender → Acked → Acknowledged
 acknowledged s (acked.Done b a) = acknowledged-as.Done (senderOf (s .settings) b (s .pacing)) a
 acknowledged s (acked.Refused b r) = acknowledged-as.Refused (senderOf (s .settings) b (s .pacing)) r
 
-pub record Acks : Type 0 where
-  pub answer : Acknowledged
-  pub lost : List ℕ
-
-abbrev pub acks : Acknowledged → List ℕ → Acks
-acks answer lost = record { answer = answer; lost = lost }
-
-abbrev pub ackedBy : Sender → Left → Acks
-ackedBy s l = acks (acknowledged s (l .answer)) (l .lost)
-
-unfoldable pub ack : Books → ℕ → FullAck → AckRtt → Acks
+unfoldable pub ack : Books → ℕ → FullAck → AckRtt → Acknowledged
 ack g n full rtt =
-    answer (λ r. acks (acknowledged-as.Refused (g .sender) r) (g .lost)) (ackVerdict g n rtt)
-    (ackedBy (g .sender) (update (rulesOf g) (record { 0 = n }) full rtt (stateOf g)))
+    answer (acknowledged-as.Refused (g .sender)) (ackVerdict g n rtt)
+    (acknowledged (g .sender) (update (rulesOf g) (record { 0 = n }) full rtt (stateOf g)))

@@ -6,6 +6,7 @@ ghost use Rattle.sender_run.specs.Runs.{roomFor, runVerdict, runs, run};
 use refusals::Refusal;
 use refusals::Verdict;
 use sender::Sender;
+use sender::judging;
 
 // The answer of `run`: the sender afterwards, how many records were written, and the budget left; where it is refused the caller's sender
 // stands.
@@ -34,12 +35,12 @@ fn judge_run(s: Sender, ts_now: u64, budget: u32, ring: &[u64], lost: &[u32], ou
     ensures { λ r. ⌜ r ≡ runVerdict (books s (now (ring .entry)) (now (lost .entry))) «ts_now» budget out ⌝ }
 {
     let b = s.buffer;
-    let short = sender::areas_short(s.settings, ring.len(), lost.len());
-    let state = sender::judge(s, ring, lost, short);
+    let short = judging::areas_short(s.settings, ring.len(), lost.len());
+    let state = judging::judge(s, ring, lost, short);
     let needed = room_for(budget, b.len());
     let room = refusals::when(out < needed, Refusal::NoRoom, Verdict::Accepted);
     let times = refusals::when(TIME_LIMIT <= ts_now, Refusal::BadTime, room);
-    sender::then(state, times)
+    judging::then(state, times)
 }
 
 // A run at `ts_now`, with a budget of packets to send: records of what to send, to drop and to wait for.
@@ -49,10 +50,10 @@ pub fn run(
     budget: u32,
     draining: bool,
     ring: &mut [u64],
-    lost: &mut [u32],
+    lost: &[u32],
     out: &mut [u8],
 ) -> Ran
-    ensures { λ r. ⌜ runs r (now (ring .exit)) (now (lost .exit)) (now (out .exit))
+    ensures { λ r. ⌜ runs r (now (ring .exit)) (now (lost .entry)) (now (out .exit))
         ≡ run (books s (now (ring .entry)) (now (lost .entry))) «ts_now» budget draining (now (out .entry)) ⌝ }
 {
     match judge_run(s, ts_now, budget, ring, lost, out.len()) {

@@ -18,12 +18,12 @@ use Rattle.sender_run.specs.declared.Ran as run
 use Rattle.sender_run.specs.Runs as Runs
 use Rattle.flat.specs.declared.senders.FlatSender.{FlatSender}
 use Rattle.flat.specs.declared.replies.MessageAnswer.{MessageAnswer}
-use Rattle.flat.specs.declared.replies.AckAnswer.{AckAnswer}
+use Rattle.flat.specs.declared.acks.AckAnswer.{AckAnswer}
 use Rattle.flat.specs.declared.replies.NakAnswer.{NakAnswer}
 use Rattle.flat.specs.declared.replies.RunAnswer.{RunAnswer}
 use Rattle.flat.specs.Senders.{senderOf}
 use Rattle.flat.specs.Replies.{messageOf, ackOf, nakOf, runOf}
-use Rattle.srt_sender.specs.Entries.{messageBy, messaged, message, ackBy, acknowledged, ack, nakBy, reported, nak, runBy, ran, run}
+use Rattle.srt_sender.specs.Entries.{messageBy, messaged, message, ack, nakBy, reported, nak, runBy, ran, run}
 
 module _ (f : FlatSender) (s : Sender) (is : s ≡ senderOf f) (ring lost : List ℕ) where
   pub message-entered : (time now : ℕ) (payload store : List ℕ) (a : sender.Messaged) (r : MessageAnswer) (ring′ lost′ store′ : List ℕ)
@@ -33,12 +33,12 @@ module _ (f : FlatSender) (s : Sender) (is : s ≡ senderOf f) (ring lost : List
   unfolding message
   message-entered time now payload store a r ring′ lost′ store′ call written = rw written (ap (messageBy f) (call ∙ rw is))
 
-  pub ack-entered : (n : ℕ) (full : FullAck) (rtt : AckRtt) (a : ack.Acknowledged) (r : AckAnswer) (lost′ : List ℕ)
-      → Acks.acks a lost′ ≡ Acks.ack (books s ring lost) n full rtt
+  pub ack-entered : (n : ℕ) (full : FullAck) (rtt : AckRtt) (a : ack.Acknowledged) (r : AckAnswer)
+      → a ≡ Acks.ack (books s ring lost) n full rtt
       → r ≡ ackOf f a
-      → acknowledged r lost′ ≡ ack f n full rtt ring lost
+      → r ≡ ack f n full rtt ring lost
   unfolding ack
-  ack-entered n full rtt a r lost′ call written = rw written (ap (ackBy f) (call ∙ rw is))
+  ack-entered n full rtt a r call written = written ∙ ap (ackOf f) (call ∙ rw is)
 
   pub nak-entered : (words out : List ℕ) (a : answers.Reported) (r : NakAnswer) (lost′ out′ : List ℕ)
       → Naks.naks a lost′ out′ ≡ Naks.nak (books s ring lost) words out

@@ -1,9 +1,8 @@
 -- The host entries: the answer as numbers, and every lent element at the end, of the call on the sender that the given numbers stand for.
 --   Messaged, messaged, message       a message's
---   Acknowledged, acknowledged, ack   an ACK's; the ring's words are only read
 --   Reported, reported, nak           a loss report's
 --   Ran, ran, run                     a run's
---   payload, reports                  these change nothing lent
+--   ack, payload, reports             these change nothing lent
 -- Assumes nothing.
 pub mod Coincide
 pub mod Laws
@@ -23,7 +22,7 @@ use Rattle.answers.specs.Reports as Reports
 use Rattle.sender_run.specs.Runs as Runs
 use Rattle.flat.specs.declared.senders.FlatSender.{FlatSender}
 use Rattle.flat.specs.declared.replies.MessageAnswer.{MessageAnswer}
-use Rattle.flat.specs.declared.replies.AckAnswer.{AckAnswer}
+use Rattle.flat.specs.declared.acks.AckAnswer.{AckAnswer}
 use Rattle.flat.specs.declared.replies.NakAnswer.{NakAnswer}
 use Rattle.flat.specs.declared.replies.RunAnswer.{RunAnswer}
 use Rattle.flat.specs.Senders.{senderOf}
@@ -47,18 +46,8 @@ messageBy f l = messaged (messageOf f (l .answer)) (l .ring) (l .lost) (l .store
 unfoldable pub message : FlatSender → ℕ → ℕ → List ℕ → List ℕ → List ℕ → List ℕ → Messaged
 message f time now payload ring lost store = messageBy f (Calls.message (booksOf f ring lost) time now payload store)
 
-pub record Acknowledged : Type 0 where
-  pub answer : AckAnswer
-  pub lost : List ℕ
-
-abbrev pub acknowledged : AckAnswer → List ℕ → Acknowledged
-acknowledged answer lost = record { answer = answer; lost = lost }
-
-abbrev pub ackBy : FlatSender → Acks.Acks → Acknowledged
-ackBy f l = acknowledged (ackOf f (l .answer)) (l .lost)
-
-unfoldable pub ack : FlatSender → ℕ → FullAck → AckRtt → List ℕ → List ℕ → Acknowledged
-ack f n full rtt ring lost = ackBy f (Acks.ack (booksOf f ring lost) n full rtt)
+unfoldable pub ack : FlatSender → ℕ → FullAck → AckRtt → List ℕ → List ℕ → AckAnswer
+ack f n full rtt ring lost = ackOf f (Acks.ack (booksOf f ring lost) n full rtt)
 
 pub record Reported : Type 0 where
   pub answer : NakAnswer

@@ -1,13 +1,13 @@
 -- What each number of an answer stands for, computed from the definitions, so that one that is wrong in code and specs alike is refused.
 -- Assumes nothing.
 use mathlib.Core.Path.{_≡_, refl}
-use mathlib.Core.List.{List, [], _∷_, map}
+use mathlib.Core.List.{[], _∷_, map}
 use Prim.Native.Nat.{ℕ}
 use Rattle.encapsulate.specs.Header.{placeBits}
 use Rattle.refusals.specs.declared.Refusal.the-variants.{BadState, BadTime}
 use Rattle.timer.specs.declared.Elapsed.the-variants.{Nothing, Periods}
 use Rattle.timer.specs.declared.Nanoseconds.the-variants as read
-use Rattle.timers.specs.declared.TimersChecked.the-variants as checked
+use Rattle.checks.specs.declared.TimersChecked.the-variants as checked
 use Rattle.srt_sender.specs.Packet.{placeOf}
 use Rattle.srt_sender.specs.TimersAnswers.{blanks, timersAnswer, timersChecked, nanoseconds}
 

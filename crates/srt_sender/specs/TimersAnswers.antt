@@ -19,11 +19,11 @@ use Rattle.timer.specs.declared.Nanoseconds.the-variants as read
 use Rattle.timers.specs.declared.Timers.{Timers}
 use Rattle.timers.specs.declared.TimersSet.{TimersSet}
 use Rattle.timers.specs.declared.TimersSet.the-variants as set
-use Rattle.timers.specs.declared.TimersChecked.{TimersChecked}
-use Rattle.timers.specs.declared.TimersChecked.the-variants as checked
-use Rattle.timers.specs.declared.NextMessage.{NextMessage}
-use Rattle.timers.specs.declared.NextMessage.the-variants.{Unknown, At}
 use Rattle.timers.specs.Timers.{timers}
+use Rattle.checks.specs.declared.TimersChecked.{TimersChecked}
+use Rattle.checks.specs.declared.TimersChecked.the-variants as checked
+use Rattle.checks.specs.declared.wake.NextMessage.{NextMessage}
+use Rattle.checks.specs.declared.wake.NextMessage.the-variants.{Unknown, At}
 use Rattle.srt_sender.specs.declared.of_timers.TimersAnswer.{TimersAnswer}
 use Rattle.srt_sender.specs.declared.of_timers.NanosecondsAnswer.{NanosecondsAnswer}
 

@@ -4,16 +4,16 @@ ghost use mathlib.Core.Path.{_≡_};
 ghost use Rattle.sender.specs.Calls.{made};
 ghost use Rattle.flat.specs.Senders.{modeOf};
 ghost use Rattle.flat.specs.Replies.{newOf, payloadOf, reportsOf, fullOf, rttOf};
-ghost use Rattle.srt_sender.specs.Entries.{messaged, message, acknowledged, ack, reported, nak, ran, run, payload, reports};
+ghost use Rattle.srt_sender.specs.Entries.{messaged, message, ack, reported, nak, ran, run, payload, reports};
 use buffer::Settings;
-use flat::replies::AckAnswer;
+use flat::acks::AckAnswer;
+use flat::questions::PayloadAnswer;
+use flat::questions::ReportsAnswer;
 use flat::replies::MessageAnswer;
 use flat::replies::NakAnswer;
-use flat::replies::NewAnswer;
-use flat::replies::PayloadAnswer;
-use flat::replies::ReportsAnswer;
 use flat::replies::RunAnswer;
 use flat::senders::FlatSender;
+use flat::starts::NewAnswer;
 use rtt::Rtt;
 use sender::Sender;
 
@@ -27,8 +27,8 @@ pub extern "C" fn srt_entry_new(
 ) -> NewAnswer
     ensures { λ r. ⌜ r ≡ newOf (made settings (modeOf mode rate overhead)) ⌝ }
 {
-    let mode = flat::senders::mode_of(mode, rate, overhead);
-    flat::replies::new_answer(Sender::new(settings, mode))
+    let mode = flat::pacings::mode_of(mode, rate, overhead);
+    flat::starts::new_answer(Sender::new(settings, mode))
 }
 
 // A message with its time, brought at `ts_now`.
@@ -39,10 +39,10 @@ pub extern "C" fn srt_entry_message(
     ts_now: u64,
     payload: &[u8],
     ring: &mut [u64],
-    lost: &mut [u32],
+    lost: &[u32],
     store: &mut [u8],
 ) -> MessageAnswer
-    ensures { λ r. ⌜ messaged r (now (ring .exit)) (now (lost .exit)) (now (store .exit))
+    ensures { λ r. ⌜ messaged r (now (ring .exit)) (now (lost .entry)) (now (store .exit))
         ≡ message given time «ts_now» (now (payload .entry)) (now (ring .entry)) (now (lost .entry)) (now (store .entry)) ⌝ }
 {
     let s = given.sender();
@@ -60,16 +60,15 @@ pub extern "C" fn srt_entry_ack(
     measured: bool,
     rtt: Rtt,
     ring: &[u64],
-    lost: &mut [u32],
+    lost: &[u32],
 ) -> AckAnswer
-    ensures { λ r. ⌜ acknowledged r (now (lost .exit))
-        ≡ ack given «ack_number» (fullOf full «full_number») (rttOf measured rtt) (now (ring .entry)) (now (lost .entry)) ⌝ }
+    ensures { λ r. ⌜ r ≡ ack given «ack_number» (fullOf full «full_number») (rttOf measured rtt) (now (ring .entry)) (now (lost .entry)) ⌝ }
 {
     let s = given.sender();
-    let full_ack = flat::replies::full_of(full, full_number);
-    let brought = flat::replies::rtt_of(measured, rtt);
+    let full_ack = flat::acks::full_of(full, full_number);
+    let brought = flat::acks::rtt_of(measured, rtt);
     let answer = s.ack(ack_number, full_ack, brought, ring, lost);
-    flat::replies::ack_answer(given, answer)
+    flat::acks::ack_answer(given, answer)
 }
 
 // A loss report; the runs of the answer go to `out`.
@@ -96,10 +95,10 @@ pub extern "C" fn srt_entry_run(
     budget: u32,
     draining: bool,
     ring: &mut [u64],
-    lost: &mut [u32],
+    lost: &[u32],
     out: &mut [u8],
 ) -> RunAnswer
-    ensures { λ r. ⌜ ran r (now (ring .exit)) (now (lost .exit)) (now (out .exit))
+    ensures { λ r. ⌜ ran r (now (ring .exit)) (now (lost .entry)) (now (out .exit))
         ≡ run given «ts_now» budget draining (now (ring .entry)) (now (lost .entry)) (now (out .entry)) ⌝ }
 {
     let s = given.sender();
@@ -118,7 +117,7 @@ pub extern "C" fn srt_entry_payload(
 ) -> PayloadAnswer
     ensures { λ r. ⌜ r ≡ payloadOf (payload given number (now (ring .entry)) (now (lost .entry)) (now (store .entry))) ⌝ }
 {
-    flat::replies::payload_answer(answers::payload(given.sender(), number, ring, lost, store))
+    flat::questions::payload_answer(answers::payload(given.sender(), number, ring, lost, store))
 }
 
 // The reports.
@@ -126,5 +125,5 @@ pub extern "C" fn srt_entry_payload(
 pub extern "C" fn srt_entry_reports(given: FlatSender, ring: &[u64], lost: &[u32]) -> ReportsAnswer
     ensures { λ r. ⌜ r ≡ reportsOf (reports given (now (ring .entry)) (now (lost .entry))) ⌝ }
 {
-    flat::replies::reports_answer(answers::reports(given.sender(), ring, lost))
+    flat::questions::reports_answer(answers::reports(given.sender(), ring, lost))
 }

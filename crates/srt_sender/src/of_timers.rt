@@ -1,16 +1,16 @@
 // The timers' calls: document 01, "Timers".
 ghost use mathlib.Core.Path.{_≡_};
 ghost use Rattle.timers.specs.Timers.{new, updateSndPeriod, updateRtt, resetExp};
-ghost use Rattle.timers.specs.Wake.{nextTimer};
-ghost use Rattle.timers.specs.Checks.{checkSnd, checkFullAck, checkNak, checkStatistics, checkPeerIdleTimeout};
+ghost use Rattle.checks.specs.Wake.{nextTimer};
+ghost use Rattle.checks.specs.Checks.{checkSnd, checkFullAck, checkNak, checkStatistics, checkPeerIdleTimeout};
 ghost use Rattle.srt_sender.specs.TimersAnswers.{told, nanoseconds, blanks, timersSet, timersChecked, nextMessage};
+use checks::TimersChecked;
+use checks::wake::NextMessage;
 use rtt::Rtt;
 use timer::Elapsed;
 use timer::Nanoseconds;
 use timer::Timer;
-use timers::NextMessage;
 use timers::Timers;
-use timers::TimersChecked;
 use timers::TimersSet;
 
 // The timers made, set or checked: the timers after the call, and how many periods a check found elapsed, 0 for none.
@@ -132,42 +132,48 @@ pub extern "C" fn srt_entry_timers_next_timer(
 ) -> NanosecondsAnswer
     ensures { λ r. ⌜ r ≡ nanoseconds (nextTimer timers now packets (nextMessage known message) unacked) ⌝ }
 {
-    nanoseconds(timers.next_timer(now, packets, next_message(known, message), unacked))
+    nanoseconds(checks::wake::next_timer(
+        timers,
+        now,
+        packets,
+        next_message(known, message),
+        unacked,
+    ))
 }
 
 #[no_mangle]
 pub extern "C" fn srt_entry_timers_check_snd(timers: Timers, now: u64) -> TimersAnswer
     ensures { λ r. ⌜ r ≡ timersChecked timers (checkSnd timers now) ⌝ }
 {
-    timers_checked(timers, timers.check_snd(now))
+    timers_checked(timers, checks::check_snd(timers, now))
 }
 
 #[no_mangle]
 pub extern "C" fn srt_entry_timers_check_full_ack(timers: Timers, now: u64) -> TimersAnswer
     ensures { λ r. ⌜ r ≡ timersChecked timers (checkFullAck timers now) ⌝ }
 {
-    timers_checked(timers, timers.check_full_ack(now))
+    timers_checked(timers, checks::check_full_ack(timers, now))
 }
 
 #[no_mangle]
 pub extern "C" fn srt_entry_timers_check_nak(timers: Timers, now: u64) -> TimersAnswer
     ensures { λ r. ⌜ r ≡ timersChecked timers (checkNak timers now) ⌝ }
 {
-    timers_checked(timers, timers.check_nak(now))
+    timers_checked(timers, checks::check_nak(timers, now))
 }
 
 #[no_mangle]
 pub extern "C" fn srt_entry_timers_check_statistics(timers: Timers, now: u64) -> TimersAnswer
     ensures { λ r. ⌜ r ≡ timersChecked timers (checkStatistics timers now) ⌝ }
 {
-    timers_checked(timers, timers.check_statistics(now))
+    timers_checked(timers, checks::check_statistics(timers, now))
 }
 
 #[no_mangle]
 pub extern "C" fn srt_entry_timers_check_peer_idle_timeout(timers: Timers, now: u64) -> TimersAnswer
     ensures { λ r. ⌜ r ≡ timersChecked timers (checkPeerIdleTimeout timers now) ⌝ }
 {
-    timers_checked(timers, timers.check_peer_idle_timeout(now))
+    timers_checked(timers, checks::check_peer_idle_timeout(timers, now))
 }
 
 #[no_mangle]

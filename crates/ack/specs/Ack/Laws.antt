@@ -35,8 +35,9 @@ use Rattle.buffer.specs.Removal.{removed, keyAfter, staying, going}
 use Rattle.buffer.specs.Removal.Laws.{Removable, Removed, Weighable}
 use Rattle.ack.specs.declared.FullAck.{FullAck}
 use Rattle.ack.specs.declared.AckRtt.{AckRtt}
+use Rattle.ack.specs.declared.Acked.{Acked}
 use Rattle.ack.specs.declared.Acked.the-variants as acked
-use Rattle.ack.specs.Ack.{fullOf, rttOf, with, ackOf, judge, judgeOn, takeRtt, acknowledged, Left, left, refused, done, update}
+use Rattle.ack.specs.Ack.{fullOf, rttOf, with, ackOf, judge, judgeOn, takeRtt, acknowledged, refused, done, update}
 
 -- d packets may go, and their wire sizes from the byte count
 pub record Acceptable (c : Settings) (st : State) (d : ℕ) : Type 0 where
@@ -78,16 +79,16 @@ module _ {b : SendBuffer} {lost : List ℕ} {d bytes : ℕ} {r : SendBuffer} (R 
   recovered-less = rw lost-is
 
   -- the outcome where st is left, but for the expected full number
-  abbrev answered : FullAck → State → Left
+  abbrev answered : FullAck → State → Acked
   answered full st =
-      left (acked.Done (with (st .books) (st .books .rtt) (expect (fullOf full) (st .books .expected)))
-      (record { received = d; recovered = going d bare; «send_ack2» = full })) (st .lost)
+      acked.Done (with (st .books) (st .books .rtt) (expect (fullOf full) (st .books .expected)))
+      (record { received = d; recovered = going d bare; «send_ack2» = full })
 
   pub done-is : (c : Settings) (full : FullAck) (ring : List ℕ) (gone e : ℕ) (a : SendBuffer) → gone ≡ wireSizes c (take d (view (state b ring lost)))
       → bytes ≡ b .bytes - gone
       → e ≡ expect (fullOf full) (r .expected)
       → a ≡ with r (r .rtt) e
-      → left (acked.Done a (record { received = d; recovered = b .lost - r .lost; «send_ack2» = full })) lost ≡ done c d full (state b ring lost)
+      → acked.Done a (record { received = d; recovered = b .lost - r .lost; «send_ack2» = full }) ≡ done c d full (state b ring lost)
   unfolding done acknowledged
   done-is c full ring gone e a g k f i =
       let whole : state r ring lost ≡ removed d (b .bytes - wireSizes c (take d (view (state b ring lost)))) (state b ring lost) =
@@ -95,7 +96,7 @@ module _ {b : SendBuffer} {lost : List ℕ} {d bytes : ℕ} {r : SendBuffer} (R 
       rw (i, f, recovered-less) (ap (answered full) whole)
 
 module _ (c : Settings) (n : SeqNumber) (full : FullAck) (rtt : AckRtt) (st : State) (v : Verdict) (same : v ≡ judgeOn n st) where
-  pub update-refused : (r : Refusal) → v ≡ Refused r → left (acked.Refused (st .books) r) (st .lost) ≡ update c n full rtt st
+  pub update-refused : (r : Refusal) → v ≡ Refused r → acked.Refused (st .books) r ≡ update c n full rtt st
   unfolding update
   update-refused r e = answer-refused (refused st) v _ _ same r e
 
@@ -108,13 +109,13 @@ module _ (c : Settings) (n : SeqNumber) (full : FullAck) (rtt : AckRtt) (st : St
     tested-is : w ≡ fullVerdict (fullOf full) (st .books .expected)
     tested-is = tested ∙ ap (λ (x : SendBuffer). fullVerdict (fullOf full) (x .expected)) taken-is
 
-    pub update-stale : (r : Refusal) → w ≡ Refused r → left (acked.Refused b r) (st .lost) ≡ update c n full rtt st
+    pub update-stale : (r : Refusal) → w ≡ Refused r → acked.Refused b r ≡ update c n full rtt st
     unfolding update
     update-stale r e = rw taken-is (answer-refused (refused (takeRtt rtt st)) w _ _ tested-is r e ∙ answer-accepted (refused st) v _ _ same ok)
 
-    pub update-done : (d : ℕ) (l : Left) → w ≡ Accepted → d ≡ ackOf n st → l ≡ done c d full (state b (st .ring) (st .lost)) → l ≡ update c n full rtt st
+    pub update-done : (d : ℕ) (a : Acked) → w ≡ Accepted → d ≡ ackOf n st → a ≡ done c d full (state b (st .ring) (st .lost)) → a ≡ update c n full rtt st
     unfolding update
-    update-done d l e f g =
+    update-done d a e f g =
         g ∙ rw (taken-is, f) (answer-accepted (refused (takeRtt rtt st)) w _ _ tested-is e ∙ answer-accepted (refused st) v _ _ same ok)
 
 -- ## What it asks for

@@ -1,6 +1,6 @@
 -- An ACK on the books is the ACK of the rules, for every sender that the books stand for.
 --   Answers                     an outcome of the call is an answer of the rules
---   Keeps, refused-keeps        what a refusal leaves
+--   refused-keeps               what a refusal leaves
 --   stands-taken, stands-acknowledged   the sender with the RTT taken over, and with the packets gone
 --   recovered-is, received-is   both counts
 --   ack-is, verdict-is          how far the ACK reaches, and what its tests come to after 3, 7 and 8
@@ -33,6 +33,7 @@ use Rattle.rules.specs.Books.Laws.{Kept, facts-kept}
 use Rattle.rules.specs.Refusals.{badRtt, fullVerdict, ackVerdict}
 use Rattle.rules.specs.Calls as calls
 use Rattle.rules.proofs.CallsKept.{takeRtt-kept}
+use Rattle.buffer.specs.declared.SendBuffer.{SendBuffer}
 use Rattle.buffer.specs.State.{State, state, view}
 use Rattle.buffer.specs.State.Stands.{Stands}
 use Rattle.buffer.specs.State.Facts.{stands-facts}
@@ -41,13 +42,14 @@ use Rattle.buffer.specs.Removal.{removed, going}
 use Rattle.buffer.specs.Removal.Laws.{stands-removed, going-is}
 use Rattle.ack.specs.declared.FullAck.{FullAck}
 use Rattle.ack.specs.declared.AckRtt.{AckRtt}
-use Rattle.ack.specs.Ack.{fullOf, rttOf, ackOf, judge, judgeOn, takeRtt, acknowledged, Left, refused, done, update, verdictOf, booksOf, saidOf}
+use Rattle.ack.specs.declared.Acked.{Acked}
+use Rattle.ack.specs.Ack.{fullOf, rttOf, ackOf, judge, judgeOn, takeRtt, acknowledged, refused, done, update, verdictOf, booksOf, saidOf}
 
--- the outcome l of the call on st is the answer a of the rules
-pub record Answers (c : Settings) (st : State) (l : Left) (a : calls.Answer) : Type 0 where
-  pub verdict : verdictOf (l .answer) ≡ a .verdict
-  pub said : saidOf (l .answer) ≡ a .said
-  pub stands : Stands c (state (booksOf (l .answer)) (st .ring) (l .lost)) (a .after)
+-- the outcome o of the call on st is the answer a of the rules
+pub record Answers (c : Settings) (st : State) (o : Acked) (a : calls.Answer) : Type 0 where
+  pub verdict : verdictOf o ≡ a .verdict
+  pub said : saidOf o ≡ a .said
+  pub stands : Stands c (state (booksOf o) (st .ring) (st .lost)) (a .after)
 
 fullVerdict-stale : (full : Option ℕ) (e : ℕ) (r : Refusal) → fullVerdict full e ≡ Refused r → numberOf r ≡ 11
 unfolding fullVerdict
@@ -59,28 +61,26 @@ fullVerdict-stale (some n) e r h = go (ltb n e) h
     go false k = absurd (let z : _≡_ {A = ℕ} 0 1 = cc in omega arith)
 
 -- "All stays as before; 11 alone keeps a new RTT."
-pub record Keeps (rtt : AckRtt) (st : State) (r : Refusal) (l : Left) : Type 0 where
-  pub books : booksOf (l .answer) ≡ cond (eqb (numberOf r) 11) (takeRtt rtt st .books) (st .books)
-  pub lost : l .lost ≡ st .lost
-
 module _ (c : Settings) (n : SeqNumber) (full : FullAck) (rtt : AckRtt) (st : State) (r : Refusal) where
-  abbrev by : Bool → Bool → Verdict → Left
+  abbrev kept : SendBuffer
+  kept = cond (eqb (numberOf r) 11) (takeRtt rtt st .books) (st .books)
+
+  abbrev by : Bool → Bool → Verdict → Acked
   by a b v =
       answer (refused st) (when a Empty (when b (InvalidAck n (st .books .front) (record { 0 = plus seqs (st .books .front .0) (st .books .sent) })) Accepted))
       (answer (refused (takeRtt rtt st)) v (done c (ackOf n (takeRtt rtt st)) full (takeRtt rtt st)))
 
-  by-keeps : (a b : Bool) (v : Verdict) → fullVerdict (fullOf full) (st .books .expected) ≡ v → verdictOf (by a b v .answer) ≡ Refused r
-      → Keeps rtt st r (by a b v)
+  by-keeps : (a b : Bool) (v : Verdict) → fullVerdict (fullOf full) (st .books .expected) ≡ v → verdictOf (by a b v) ≡ Refused r → booksOf (by a b v) ≡ kept
   unfolding done
-  by-keeps true b v f k = let is : numberOf r ≡ 9 = cc in record { books = rw is; lost = refl }
-  by-keeps false true v f k = let is : numberOf r ≡ 10 = cc in record { books = rw is; lost = refl }
+  by-keeps true b v f k = let is : numberOf r ≡ 9 = cc in rw is
+  by-keeps false true v f k = let is : numberOf r ≡ 10 = cc in rw is
   by-keeps false false Accepted f k = absurd (let z : _≡_ {A = ℕ} 0 1 = cc in omega arith)
   by-keeps false false (Refused q) f k =
       let same : numberOf r ≡ numberOf q = cc in
       let is : numberOf r ≡ 11 = same ∙ fullVerdict-stale (fullOf full) (st .books .expected) q f in
-      record { books = rw is; lost = refl }
+      rw is
 
-  pub refused-keeps : verdictOf (update c n full rtt st .answer) ≡ Refused r → Keeps rtt st r (update c n full rtt st)
+  pub refused-keeps : verdictOf (update c n full rtt st) ≡ Refused r → booksOf (update c n full rtt st) ≡ kept
   unfolding update judge
   refused-keeps e =
       by-keeps (eqb (st .books .ring .len) 0) (ltb (st .books .sent) (ackOf n st)) (fullVerdict (fullOf full) (st .books .expected)) refl e

@@ -3,10 +3,10 @@
 --   verdictOf, senderAfter   an answer's verdict, and the sender from then on
 --   Listed, Says             the runs of the answer lie in the list; a refusal leaves it
 --   Answers                  an outcome of the call is an answer of the rules
---   nak-is, nak-kept         the call answers and leaves what the rules say, and the next one finds the books kept
+--   nak-is                   the call answers and leaves what the rules say
 --   nak-short, nak-broken    where an area is too short, and then where the books break a rule
 -- Assumes nothing.
-use mathlib.Core.Path.{_≡_, refl, sym, ap, _∙_}
+use mathlib.Core.Path.{_≡_, refl, sym, _∙_}
 use mathlib.Core.List.{List}
 use Prim.Native.Nat.{ℕ, _/_, _^_, _<_}
 use mathlib.Core.Bool.{true, false}
@@ -25,13 +25,12 @@ use Rattle.rules.specs.Losses.{LossRun, report, wordsOf}
 use Rattle.rules.specs.Refusals.{nakVerdict as rulesVerdict, wordsVerdict}
 use Rattle.rules.specs.Calls as calls
 use Rattle.rules.specs.Calls.Laws.{answer-by}
-use Rattle.buffer.specs.State.{settingsOf}
 use Rattle.words.specs.Runs.Lent.{Holds}
 use Rattle.report.specs.Report.{add}
 use Rattle.report.specs.Report.Stands as Report
 use Rattle.sender.specs.declared.Sender.{Sender}
 use Rattle.sender.specs.Books.{Books, books, rulesOf, areasShort, kept, judge}
-use Rattle.sender.specs.Books.Stands.{StandsFor, areas-long, judge-accepted, judge-short, judge-broken, next-kept}
+use Rattle.sender.specs.Books.Stands.{StandsFor, areas-long, judge-accepted, judge-short, judge-broken}
 use Rattle.answers.specs.declared.Reported.{Reported}
 use Rattle.answers.specs.declared.Reported.the-variants.{Done, Refused}
 use Rattle.answers.specs.Naks.{nakVerdict, Naks, naks, nakBy, nak}
@@ -105,9 +104,6 @@ module _ (g : Books) (s : rules.Sender) (S : StandsFor g s) (K : Kept (rulesOf g
   pub nak-is : Answers g out (nak g ws out) (calls.answer c call s)
   unfolding nak nakVerdict
   nak-is = rw judged (by-verdict (wordsVerdict (wordsOf ws) (length out / 3)) refl)
-
-  pub nak-kept : let l = nak g ws out in kept (books (senderAfter (g .sender) (l .answer)) (g .ring) (l .lost)) ≡ true
-  nak-kept = next-kept g s S call tt K _ (ap settingsOf (nak-is .settings)) (nak-is .stands)
 
 module _ (g : Books) (ws out : List ℕ) where
   pub nak-short : areasShort (rulesOf g) (length (g .ring)) (length (g .lost)) ≡ true → nak g ws out ≡ naks (Refused BadStore) (g .lost) out

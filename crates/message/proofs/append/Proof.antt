@@ -10,17 +10,17 @@ use Rattle.message.proofs.append.Tie as tie
 push-back-requires : tie.Need-push-back-requires
 push-back-requires c κs = search needs
 
-cast-t14 : tie.Need-cast-t14
-cast-t14 c = search needs
+cast-buffer : tie.Need-cast-buffer
+cast-buffer c = search needs
 
-add-t15 : tie.Need-add-t15
-add-t15 c = search needs
+add-buffer : tie.Need-add-buffer
+add-buffer c = search needs
 
-add-t16 : tie.Need-add-t16
-add-t16 c = search needs
+add-buffer-2 : tie.Need-add-buffer-2
+add-buffer-2 c = search needs
 
-add-t18 : tie.Need-add-t18
-add-t18 c = omega (arith, c .before .before .before .before .before .before .before .before .before .before .before .before .before .before .pre .few)
+add-t11 : tie.Need-add-t11
+add-t11 c = omega (arith, c .before .before .before .before .before .before .before .before .before .before .before .pre .few)
 
 same-length : tie.Need-same-length
 same-length c = search needs
@@ -28,9 +28,9 @@ same-length c = search needs
 returns : tie.Need-returns
 returns c =
     let q = c .before .before .before .before .before .before in
-    let s = q .before .before .before .before .before .before .before .before in
+    let s = q .before .before .before .before .before in
     append-is (settingsOf (s .args .c)) (s .args .p) (s .args .ring .now) _ (s .args .e) _ (q .push-back .ensures .0) (q .push-back .ensures .1)
 
 pub append-spec : {M : Type 1} → statement M
 append-spec =
-    tie.close (tie.spec push-back-requires cast-t14 add-t15 add-t16 add-t18 same-length returns)
+    tie.close (tie.spec push-back-requires cast-buffer add-buffer add-buffer-2 add-t11 same-length returns)

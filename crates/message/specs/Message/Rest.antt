@@ -33,7 +33,7 @@ use Rattle.buffer.specs.State.Facts.{stands-facts}
 use Rattle.buffer.specs.State.Stands.{Stands}
 use Rattle.message.specs.declared.Pushed.{Pushed}
 use Rattle.message.specs.Message.{Work, World, work, world, entryOf, gone, makeRoom, roomed, appended, nextPlace, pushOne}
-use Rattle.message.specs.Message.Laws.{stands-room, room-made, stands-one}
+use Rattle.message.specs.Message.OnePacket.{stands-room, room-made, stands-one}
 use Rattle.message.specs.Message.Parts.{Roomable, Appendable, Appended, front-small}
 
 pub record Rest (c : Settings) (time m : ℕ) (payload : List ℕ) (n : ℕ) (w : World) : Type 0 where

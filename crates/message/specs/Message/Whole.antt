@@ -8,15 +8,14 @@ use mathlib.Core.Path.{_≡_, refl, _∙_}
 use mathlib.Core.List.{List}
 use Prim.Native.Nat.{ℕ, zero, suc, _+_, _-_, _*_, _^_, _≤_, _<_}
 use native.Mathlib.Omega.{arith}
-use native.Mathlib.Nat.{mod-lt}
-use lib.Dec.{lit<}
 use lib.ListN.{length}
 use Rattle.encapsulate.specs.Split.{count}
 use Rattle.encapsulate.specs.Split.Laws.{Sized}
 use Rattle.rules.specs.Settings.{Settings, storeSize}
 use Rattle.rules.specs.Sender.{Sender}
 use Rattle.rules.specs.Books.Laws.{Kept}
-use Rattle.rules.proofs.MessageKept.{sizes-message}
+use Rattle.rules.proofs.MessageKept.{numbered-fields, sizes-message}
+use Rattle.rules.proofs.RunKept.{same-kept}
 use Rattle.buffer.specs.declared.SendBuffer.{SendBuffer}
 use Rattle.buffer.specs.State.{State, state}
 use Rattle.buffer.specs.State.Facts.{stands-facts}
@@ -34,23 +33,8 @@ pub record Sendable (c : Settings) (st : State) (time : ℕ) (payload store : Li
   pub room : storeSize c ≤ length store
 
 kept-numbered : (c : Settings) (s : Sender) → Kept c s → Kept c (numbered (s .pacing) s)
-kept-numbered c s g = record {
-  good = record { low = g .good .low; high = g .good .high; lost = g .good .lost };
-  fits = g .fits;
-  old = g .old;
-  new = g .new;
-  covers = g .covers;
-  small = g .small;
-  fields = record {
-    settings = g .fields .settings;
-    rtt = g .fields .rtt;
-    messages = mod-lt (s .messages + 1) (lit< tt);
-    least = g .fields .least;
-    most = g .fields .most;
-    held = tt;
-    pacing = g .fields .pacing;
-  };
-}
+kept-numbered c s g =
+    same-kept c s (numbered (s .pacing) s) refl refl refl refl (g .good .lost) (numbered-fields c s (s .pacing) (g .fields .pacing) g) g
 
 module _ {c : Settings} {st : State} {time : ℕ} {payload store : List ℕ} (A : Sendable c st time payload store) where
   abbrev s : Sender

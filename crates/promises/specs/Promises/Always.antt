@@ -30,7 +30,7 @@ use Rattle.encapsulate.specs.Split.{count}
 use Rattle.refusals.specs.declared.Verdict.{Verdict}
 use Rattle.buffer.specs.declared.Settings as code
 use Rattle.buffer.specs.State.{settingsOf}
-use Rattle.sender.specs.Books.{Books, books, rulesOf, kept}
+use Rattle.sender.specs.Books.{books, rulesOf, kept}
 use Rattle.sender.specs.Books.Stands.{StandsFor, kept-is}
 use Rattle.sender.specs.Calls.Stands as Message
 use Rattle.sender.specs.Acks.Stands as Ack
@@ -40,9 +40,7 @@ use Rattle.answers.specs.Payload.Stands as Payload
 use Rattle.answers.specs.Reports.{reports}
 use Rattle.answers.specs.Reports.Stands.{reports-are}
 use Rattle.sender_run.specs.Runs.Stands as Run
-use Rattle.ack.specs.declared.FullAck.{FullAck}
 use Rattle.ack.specs.declared.FullAck.the-variants as full
-use Rattle.ack.specs.declared.AckRtt.{AckRtt}
 use Rattle.promises.specs.Promises.{World, Call, message, ack, nak, run, payload, ruleOf, Fits, AllFit, after, worlds, Same, started}
 
 pub record Stood (c : Settings) (w : World) (s : Sender) : Type 0 where
@@ -93,76 +91,52 @@ module _ {c : Settings} {w : World} {s : Sender} (S : Stood c w s) where
   as-rules : (k : Call) → rules.answer d (ruleOf k) s ≡ rules.answer c (ruleOf k) s
   as-rules k = ap (λ (e : Settings). rules.answer e (ruleOf k) s) (S .settings)
 
+  -- what a call leaves, from what its answer says
+  stood : (k : Call) → Fits k → rulesOf (after k w .books) ≡ d → StandsFor (after k w .books) (rules.answer d (ruleOf k) s .after)
+      → storeSize c ≤ length (after k w .store)
+      → Stood c (after k w) (rules.answer c (ruleOf k) s .after)
+  stood k f same stands room = record {
+    settings = same ∙ S .settings;
+    stands = subst (λ (a : rules.Answer). StandsFor (after k w .books) (a .after)) (as-rules k) stands;
+    kept = keeps k f;
+    room = room;
+  }
+
   -- what a call leaves stands for what the rules leave
   pub one-world : (k : Call) → Fits k → Stood c (after k w) (rules.answer c (ruleOf k) s .after)
   unfolding after
   one-world (message time now bytes) f =
       let A = one-answer S (message time now bytes) f in
-      record {
-        settings = ap settingsOf (A .settings) ∙ S .settings;
-        stands = subst (λ (a : rules.Answer). StandsFor (after (message time now bytes) w .books) (a .after)) (as-rules (message time now bytes)) (A .stands);
-        kept = keeps (message time now bytes) f;
-        room = rw (A .store, S .settings) (stored-long c s time now bytes (w .store) (S .room));
-      }
+      stood (message time now bytes) f (ap settingsOf (A .settings)) (A .stands) (rw (A .store, S .settings) (stored-long c s time now bytes (w .store) (S .room)))
   one-world (ack n full rtt) f =
       let A = one-answer S (ack n full rtt) f in
-      record {
-        settings = ap settingsOf (A .settings) ∙ S .settings;
-        stands = subst (λ (a : rules.Answer). StandsFor (after (ack n full rtt) w .books) (a .after)) (as-rules (ack n full rtt)) (A .stands);
-        kept = keeps (ack n full rtt) f;
-        room = S .room;
-      }
+      stood (ack n full rtt) f (ap settingsOf (A .settings)) (A .stands) (S .room)
   one-world (nak words list) f =
       let A = one-answer S (nak words list) f in
-      record {
-        settings = ap settingsOf (A .settings) ∙ S .settings;
-        stands = subst (λ (a : rules.Answer). StandsFor (after (nak words list) w .books) (a .after)) (as-rules (nak words list)) (A .stands);
-        kept = keeps (nak words list) f;
-        room = S .room;
-      }
+      stood (nak words list) f (ap settingsOf (A .settings)) (A .stands) (S .room)
   one-world (run now p draining list) f =
       let A = one-answer S (run now p draining list) f in
-      record {
-        settings = ap settingsOf (A .settings) ∙ S .settings;
-        stands = subst (λ (a : rules.Answer). StandsFor (after (run now p draining list) w .books) (a .after)) (as-rules (run now p draining list)) (A .stands);
-        kept = keeps (run now p draining list) f;
-        room = S .room;
-      }
-  one-world (payload n) f =
-      let A = one-answer S (payload n) f in
-      let same : rules.answer c (rules.payload n) s .after ≡ s = sym (ap (λ (a : rules.Answer). a .after) (as-rules (payload n))) ∙ A .same in
-      record {
-        settings = S .settings;
-        stands = rw same (S .stands);
-        kept = keeps (payload n) f;
-        room = S .room;
-      }
+      stood (run now p draining list) f (ap settingsOf (A .settings)) (A .stands) (S .room)
+  one-world (payload n) f = stood (payload n) f refl (rw (one-answer S (payload n) f .same) (S .stands)) (S .room)
+
+  -- a call that writes nothing to the store where it is accepted
+  unwritten : (k : rules.Call) → rules.storeBy c Accepted k s (w .store) ≡ w .store → w .store ≡ rules.storeAfter c k s (w .store)
+  unfolding rules.storeAfter rules.storeBy
+  unwritten k e = go (rules.verdictOf c k s)
+    where
+      go : (v : Verdict) → w .store ≡ rules.storeBy c v k s (w .store)
+      go Accepted = sym e
+      go (Refused r) = refl
 
   -- only an accepted message writes to the store
   pub one-store : (k : Call) → Fits k → after k w .store ≡ rules.storeAfter c (ruleOf k) s (w .store)
-  unfolding after rules.storeAfter rules.storeBy
+  unfolding after rules.storeBy
   one-store (message time now bytes) f =
       one-answer S (message time now bytes) f .store ∙ ap (λ (e : Settings). rules.storeAfter e (rules.message time now bytes) s (w .store)) (S .settings)
-  one-store (ack n full rtt) f = go (rules.verdictOf c (ruleOf (ack n full rtt)) s)
-    where
-      go : (v : Verdict) → w .store ≡ rules.storeBy c v (ruleOf (ack n full rtt)) s (w .store)
-      go Accepted = refl
-      go (Refused r) = refl
-  one-store (nak words list) f = go (rules.verdictOf c (ruleOf (nak words list)) s)
-    where
-      go : (v : Verdict) → w .store ≡ rules.storeBy c v (ruleOf (nak words list)) s (w .store)
-      go Accepted = refl
-      go (Refused r) = refl
-  one-store (run now p draining list) f = go (rules.verdictOf c (ruleOf (run now p draining list)) s)
-    where
-      go : (v : Verdict) → w .store ≡ rules.storeBy c v (ruleOf (run now p draining list)) s (w .store)
-      go Accepted = refl
-      go (Refused r) = refl
-  one-store (payload n) f = go (rules.verdictOf c (ruleOf (payload n)) s)
-    where
-      go : (v : Verdict) → w .store ≡ rules.storeBy c v (ruleOf (payload n)) s (w .store)
-      go Accepted = refl
-      go (Refused r) = refl
+  one-store (ack n full rtt) f = unwritten (ruleOf (ack n full rtt)) refl
+  one-store (nak words list) f = unwritten (ruleOf (nak words list)) refl
+  one-store (run now p draining list) f = unwritten (ruleOf (run now p draining list)) refl
+  one-store (payload n) f = unwritten (ruleOf (payload n)) refl
 
 -- ## Any calls
 

@@ -12,9 +12,10 @@ use Rattle.buffer.specs.declared.Settings.{Settings}
 use Rattle.ack.specs.declared.FullAck.{FullAck}
 use Rattle.ack.specs.declared.AckRtt.{AckRtt}
 use Rattle.sender.specs.declared.Made.{Made}
+use Rattle.sender.specs.declared.Acknowledged.{Acknowledged}
 use Rattle.sender.specs.Books.{Books}
 use Rattle.sender.specs.Calls.{Messages, made, message}
-use Rattle.sender.specs.Acks.{Acks, ack}
+use Rattle.sender.specs.Acks.{ack}
 use Rattle.answers.specs.declared.Found.{Found}
 use Rattle.answers.specs.declared.Told.{Told}
 use Rattle.answers.specs.Naks.{Naks, nak}
@@ -33,7 +34,7 @@ module _ (g : Books) where
   pub message-coincide : (time now : ℕ) (bytes store : List ℕ) (x y : Messages) → x ≡ message g time now bytes store → y ≡ message g time now bytes store → x ≡ y
   message-coincide time now bytes store x y = both x y (message g time now bytes store)
 
-  pub ack-coincide : (n : ℕ) (full : FullAck) (rtt : AckRtt) (x y : Acks) → x ≡ ack g n full rtt → y ≡ ack g n full rtt → x ≡ y
+  pub ack-coincide : (n : ℕ) (full : FullAck) (rtt : AckRtt) (x y : Acknowledged) → x ≡ ack g n full rtt → y ≡ ack g n full rtt → x ≡ y
   ack-coincide n full rtt x y = both x y (ack g n full rtt)
 
   pub nak-coincide : (words list : List ℕ) (x y : Naks) → x ≡ nak g words list → y ≡ nak g words list → x ≡ y

@@ -45,6 +45,7 @@ use Rattle.ack.specs.Ack as AckOf
 use Rattle.ack.specs.Ack.Stands.{refused-keeps}
 use Rattle.buffer.specs.declared.SendBuffer.{SendBuffer}
 use Rattle.sender.specs.declared.Sender.{Sender}
+use Rattle.sender.specs.declared.Acknowledged.{Acknowledged}
 use Rattle.sender.specs.declared.Acknowledged.the-variants as acknowledged-as
 use Rattle.report.specs.Report as Report
 use Rattle.run.specs.Run as Run₀
@@ -55,7 +56,7 @@ use Rattle.promises.specs.Promises.{World, Call, message, ack, nak, run,
 
 unfoldable pub verdictIn : Call → World → Verdict
 verdictIn (message time now bytes) w = Message.verdictOf (Messages.message (w .books) time now bytes (w .store) .answer)
-verdictIn (ack n full rtt) w = Ack.verdictOf (Acks.ack (w .books) n full rtt .answer)
+verdictIn (ack n full rtt) w = Ack.verdictOf (Acks.ack (w .books) n full rtt)
 verdictIn (nak words list) w = Nak.verdictOf (Naks.nak (w .books) words list .answer)
 verdictIn (run now p draining list) w = Run.verdictOf (Runs.run (w .books) now p draining list .answer)
 verdictIn (payload n) w = Payload.verdictOf (Payloads.payload (w .books) n (w .store))
@@ -77,18 +78,11 @@ module _ (w : World) (r : Refusal) where
   unfolding verdictIn after Messages.message Messages.done
   message-stays time now bytes = go (Messages.messageVerdict g time now (length bytes) (length (w .store)))
     where
-      made : Messages.Messages
-      made = Messages.done g time now bytes (w .store)
+      left : Verdict → Messages.Messages
+      left v = answer (λ q. Messages.area (messaged.Refused q) (g .ring) (g .lost) (w .store)) v (Messages.done g time now bytes (w .store))
 
-      go : (v : Verdict)
-          → Message.verdictOf (answer (λ q. Messages.area (messaged.Refused q) (g .ring) (g .lost) (w .store)) v made .answer) ≡ Refused r
-          → record {
-            books =
-                books (Message.senderAfter (g .sender) (answer (λ q. Messages.area (messaged.Refused q) (g .ring) (g .lost) (w .store)) v made .answer))
-                (answer (λ q. Messages.area (messaged.Refused q) (g .ring) (g .lost) (w .store)) v made .ring)
-                (answer (λ q. Messages.area (messaged.Refused q) (g .ring) (g .lost) (w .store)) v made .lost);
-            store = answer (λ q. Messages.area (messaged.Refused q) (g .ring) (g .lost) (w .store)) v made .store;
-          } ≡ w
+      go : (v : Verdict) → Message.verdictOf (left v .answer) ≡ Refused r
+          → record { books = books (Message.senderAfter (g .sender) (left v .answer)) (left v .ring) (left v .lost); store = left v .store } ≡ w
       go Accepted e = let z : Accepted ≡ Refused r = sym (finished-accepts _ _ _ _ _ _) ∙ e in cc
       go (Refused q) e = refl
 
@@ -96,14 +90,11 @@ module _ (w : World) (r : Refusal) where
   unfolding verdictIn after Naks.nak
   nak-stays words list = go (Naks.nakVerdict g words (length list))
     where
-      made : Naks.Naks
-      made = Naks.nakBy (g .sender) (Report.add (g .sender .buffer) words (g .lost) list)
+      left : Verdict → Naks.Naks
+      left v = answer (λ q. Naks.naks (reported.Refused q) (g .lost) list) v (Naks.nakBy (g .sender) (Report.add (g .sender .buffer) words (g .lost) list))
 
-      go : (v : Verdict) → Nak.verdictOf (answer (λ q. Naks.naks (reported.Refused q) (g .lost) list) v made .answer) ≡ Refused r
-          → record {
-            books = books (Nak.senderAfter (g .sender) (answer (λ q. Naks.naks (reported.Refused q) (g .lost) list) v made .answer)) (g .ring) (answer (λ q. Naks.naks (reported.Refused q) (g .lost) list) v made .lost);
-            store = w .store;
-          } ≡ w
+      go : (v : Verdict) → Nak.verdictOf (left v .answer) ≡ Refused r
+          → record { books = books (Nak.senderAfter (g .sender) (left v .answer)) (g .ring) (left v .lost); store = w .store } ≡ w
       go Accepted e = cc
       go (Refused q) e = refl
 
@@ -111,104 +102,82 @@ module _ (w : World) (r : Refusal) where
   unfolding verdictIn after Runs.run
   run-stays now p draining list = go (Runs.runVerdict g now p (length list))
     where
-      made : Runs.Runs
-      made = Runs.ranBy (g .sender) (Run₀.run (rulesOf g) now draining p (stateOf g) list)
+      left : Verdict → Runs.Runs
+      left v =
+          answer (λ q. Runs.runs (ran.Refused q) (g .ring) (g .lost) list) v (Runs.ranBy (g .sender) (Run₀.run (rulesOf g) now draining p (stateOf g) list))
 
-      go : (v : Verdict) → Run.verdictOf (answer (λ q. Runs.runs (ran.Refused q) (g .ring) (g .lost) list) v made .answer) ≡ Refused r
-          → record {
-            books =
-                books (Run.senderAfter (g .sender) (answer (λ q. Runs.runs (ran.Refused q) (g .ring) (g .lost) list) v made .answer))
-                (answer (λ q. Runs.runs (ran.Refused q) (g .ring) (g .lost) list) v made .ring)
-                (answer (λ q. Runs.runs (ran.Refused q) (g .ring) (g .lost) list) v made .lost);
-            store = w .store;
-          } ≡ w
+      go : (v : Verdict) → Run.verdictOf (left v .answer) ≡ Refused r
+          → record { books = books (Run.senderAfter (g .sender) (left v .answer)) (left v .ring) (left v .lost); store = w .store } ≡ w
       go Accepted e = cc
       go (Refused q) e = refl
 
-  -- an answer of the crate ack, with the sender round it
-  shown : (a : Acked) → (Ack.verdictOf (Acks.acknowledged (g .sender) a) ≡ AckOf.verdictOf a)
-      × (Ack.senderAfter (Acks.acknowledged (g .sender) a) ≡ Messages.senderOf (g .sender .settings) (AckOf.booksOf a) (g .sender .pacing))
-  shown (acked.Done b a) = (refl, refl)
-  shown (acked.Refused b q) = (refl, refl)
+-- ## An ACK
 
-  ack-stays : (n : ℕ) (full : FullAck) (rtt : AckRtt) → verdictIn (ack n full rtt) w ≡ Refused r → (numberOf r ≡ 11 → ⊥) → after (ack n full rtt) w ≡ w
-  unfolding verdictIn after Acks.ack
-  ack-stays n full rtt e₀ not11 = go (Acks.ackVerdict g n rtt) e₀
-    where
-      l : AckOf.Left
-      l = AckOf.update (rulesOf g) (record { 0 = n }) full rtt (stateOf g)
-
-      go : (v : Verdict)
-          → Ack.verdictOf (answer (λ q. Acks.acks (acknowledged-as.Refused (g .sender) q) (g .lost)) v (Acks.ackedBy (g .sender) l) .answer) ≡ Refused r
-          → record {
-            books =
-                books (Ack.senderAfter (answer (λ q. Acks.acks (acknowledged-as.Refused (g .sender) q) (g .lost)) v (Acks.ackedBy (g .sender) l) .answer)) (g .ring)
-                (answer (λ q. Acks.acks (acknowledged-as.Refused (g .sender) q) (g .lost)) v (Acks.ackedBy (g .sender) l) .lost);
-            store = w .store;
-          } ≡ w
-      go Accepted e =
-          let x = shown (l .answer) in
-          let k = refused-keeps (rulesOf g) (record { 0 = n }) full rtt (stateOf g) r (sym (x .0) ∙ e) in
-          let other : eqb (numberOf r) 11 ≡ false = ne-eqb (numberOf r) 11 not11 in
-          let same : AckOf.booksOf (l .answer) ≡ g .sender .buffer = k .books ∙ rw other in
-          ap (λ (s : Sender). record { books = books s (g .ring) (l .lost); store = w .store }) (x .1 ∙ ap (λ (b : SendBuffer). Messages.senderOf (g .sender .settings) b (g .sender .pacing)) same)
-          ∙ ap (λ (m : List ℕ). record { books = books (g .sender) (g .ring) m; store = w .store }) (k .lost)
-      go (Refused q) e = refl
-
-  -- the tests before an ACK reaches the buffer give no 11
-  early-not-11 : (a b d f : Bool) (q : Refusal)
-      → Messages.then (when a BadStore (when b BadState Accepted)) (when d BadNumber (when f BadRtt Accepted)) ≡ Refused q
-      → numberOf q ≡ 11
-      → ⊥
-  early-not-11 true b d f q e n = let z : numberOf q ≡ 2 = cc in omega (arith, z, n)
-  early-not-11 false true d f q e n = let z : numberOf q ≡ 3 = cc in omega (arith, z, n)
-  early-not-11 false false true f q e n = let z : numberOf q ≡ 7 = cc in omega (arith, z, n)
-  early-not-11 false false false true q e n = let z : numberOf q ≡ 8 = cc in omega (arith, z, n)
-  early-not-11 false false false false q e n = let z : _≡_ {A = ℕ} 0 1 = cc in omega arith
+-- the same world with other books of the buffer
+abbrev withBuffer : SendBuffer → World → World
+withBuffer b w =
+    let g = w .books in
+    record { books = books (Messages.senderOf (g .sender .settings) b (g .sender .pacing)) (g .ring) (g .lost); store = w .store }
 
 -- the same world with the round-trip time that an ACK brought
 abbrev pub withRtt : AckRtt → World → World
-withRtt rtt w =
-    let s = w .books .sender in
-    record {
-      books =
-          books (Messages.senderOf (s .settings) (AckOf.takeRtt rtt (stateOf (w .books)) .books) (s .pacing)) (w .books .ring) (w .books .lost);
-      store = w .store;
-    }
+withRtt rtt w = withBuffer (AckOf.takeRtt rtt (stateOf (w .books)) .books) w
+
+-- an answer of the crate ack, with the sender round it
+shown : (s : Sender) (a : Acked) → (Ack.verdictOf (Acks.acknowledged s a) ≡ AckOf.verdictOf a)
+    × (Ack.senderAfter (Acks.acknowledged s a) ≡ Messages.senderOf (s .settings) (AckOf.booksOf a) (s .pacing))
+shown s (acked.Done b a) = (refl, refl)
+shown s (acked.Refused b q) = (refl, refl)
+
+-- the tests before an ACK reaches the buffer give no 11
+early-not-11 : (a b d f : Bool) (q : Refusal)
+    → Messages.then (when a BadStore (when b BadState Accepted)) (when d BadNumber (when f BadRtt Accepted)) ≡ Refused q
+    → numberOf q ≡ 11
+    → ⊥
+early-not-11 true b d f q e n = let z : numberOf q ≡ 2 = cc in omega (arith, z, n)
+early-not-11 false true d f q e n = let z : numberOf q ≡ 3 = cc in omega (arith, z, n)
+early-not-11 false false true f q e n = let z : numberOf q ≡ 7 = cc in omega (arith, z, n)
+early-not-11 false false false true q e n = let z : numberOf q ≡ 8 = cc in omega (arith, z, n)
+early-not-11 false false false false q e n = let z : _≡_ {A = ℕ} 0 1 = cc in omega arith
+
+-- a refused ACK leaves the books of the buffer as they were, but for 11
+ack-leaves : (w : World) (r : Refusal) (n : ℕ) (full : FullAck) (rtt : AckRtt) → verdictIn (ack n full rtt) w ≡ Refused r
+    → after (ack n full rtt) w ≡ withBuffer (cond (eqb (numberOf r) 11) (AckOf.takeRtt rtt (stateOf (w .books)) .books) (w .books .sender .buffer)) w
+unfolding verdictIn after Acks.ack Acks.ackVerdict judge
+ack-leaves w r n full rtt = go (Acks.ackVerdict g n rtt) refl
+  where
+    g : Books
+    g = w .books
+
+    said : Acked
+    said = AckOf.update (rulesOf g) (record { 0 = n }) full rtt (stateOf g)
+
+    left : Verdict → Acknowledged
+    left v = answer (acknowledged-as.Refused (g .sender)) v (Acks.acknowledged (g .sender) said)
+
+    go : (v : Verdict) → Acks.ackVerdict g n rtt ≡ v → Ack.verdictOf (left v) ≡ Refused r
+        → record { books = books (Ack.senderAfter (left v)) (g .ring) (g .lost); store = w .store }
+        ≡ withBuffer (cond (eqb (numberOf r) 11) (AckOf.takeRtt rtt (stateOf g) .books) (g .sender .buffer)) w
+    go Accepted d e =
+        let x = shown (g .sender) said in
+        ap (λ (s : Sender). record { books = books s (g .ring) (g .lost); store = w .store }) (x .1)
+        ∙ ap (λ (b : SendBuffer). withBuffer b w) (refused-keeps (rulesOf g) (record { 0 = n }) full rtt (stateOf g) r (sym (x .0) ∙ e))
+    go (Refused q) d e =
+        let same : numberOf r ≡ numberOf q = cc in
+        let short = areasShort (rulesOf g) (length (g .ring)) (length (g .lost)) in
+        let early = early-not-11 short (not (keptBooks g)) (leb (2 ^ 31) n) (badRtt (AckOf.rttOf rtt)) q d in
+        rw (ne-eqb (numberOf r) 11 (λ is. early (sym same ∙ is)))
+
+ack-stays : (w : World) (r : Refusal) (n : ℕ) (full : FullAck) (rtt : AckRtt) → verdictIn (ack n full rtt) w ≡ Refused r → (numberOf r ≡ 11 → ⊥)
+    → after (ack n full rtt) w ≡ w
+ack-stays w r n full rtt e other = ack-leaves w r n full rtt e ∙ rw (ne-eqb (numberOf r) 11 other)
 
 -- 11 keeps the round-trip time that the ACK brought, and nothing else
 pub stale-keeps : (w : World) (r : Refusal) (n : ℕ) (full : FullAck) (rtt : AckRtt) → verdictIn (ack n full rtt) w ≡ Refused r → numberOf r ≡ 11
     → after (ack n full rtt) w ≡ withRtt rtt w
-unfolding verdictIn after Acks.ack Acks.ackVerdict judge
-stale-keeps w r n full rtt e₀ is11 = go (Acks.ackVerdict (w .books) n rtt) refl e₀
-  where
-    l : AckOf.Left
-    l = AckOf.update (rulesOf (w .books)) (record { 0 = n }) full rtt (stateOf (w .books))
+stale-keeps w r n full rtt e is = ack-leaves w r n full rtt e ∙ rw is
 
-    short : Bool
-    short = areasShort (rulesOf (w .books)) (length (w .books .ring)) (length (w .books .lost))
-
-    early : (q : Refusal) → Acks.ackVerdict (w .books) n rtt ≡ Refused q → numberOf q ≡ 11 → ⊥
-    early q d = early-not-11 w r short (not (keptBooks (w .books))) (leb (2 ^ 31) n) (badRtt (AckOf.rttOf rtt)) q d
-
-    go : (v : Verdict) → Acks.ackVerdict (w .books) n rtt ≡ v
-        → Ack.verdictOf (answer (λ q. Acks.acks (acknowledged-as.Refused (w .books .sender) q) (w .books .lost)) v (Acks.ackedBy (w .books .sender) l) .answer) ≡ Refused r
-        → record {
-          books =
-              books (Ack.senderAfter (answer (λ q. Acks.acks (acknowledged-as.Refused (w .books .sender) q) (w .books .lost)) v (Acks.ackedBy (w .books .sender) l) .answer))
-              (w .books .ring) (answer (λ q. Acks.acks (acknowledged-as.Refused (w .books .sender) q) (w .books .lost)) v (Acks.ackedBy (w .books .sender) l) .lost);
-          store = w .store;
-        } ≡ withRtt rtt w
-    go Accepted d e =
-        let g : Books = w .books in
-        let x = shown w r (l .answer) in
-        let k = refused-keeps (rulesOf g) (record { 0 = n }) full rtt (stateOf g) r (sym (x .0) ∙ e) in
-        let same : AckOf.booksOf (l .answer) ≡ AckOf.takeRtt rtt (stateOf g) .books = k .books ∙ rw is11 in
-        ap (λ (s : Sender). record { books = books s (g .ring) (l .lost); store = w .store }) (x .1 ∙ ap (λ (b : SendBuffer). Messages.senderOf (g .sender .settings) b (g .sender .pacing)) same)
-        ∙ ap (λ (m : List ℕ). record { books = books (Messages.senderOf (g .sender .settings) (AckOf.takeRtt rtt (stateOf g) .books) (g .sender .pacing)) (g .ring) m; store = w .store }) (k .lost)
-    go (Refused q) d e =
-        let same : numberOf q ≡ numberOf r = cc in
-        absurd (early q d (same ∙ is11))
+-- ## Any call
 
 pub refused-stays : (k : Call) (w : World) (r : Refusal) → verdictIn k w ≡ Refused r → (numberOf r ≡ 11 → ⊥) → after k w ≡ w
 unfolding after

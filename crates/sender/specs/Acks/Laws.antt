@@ -2,11 +2,9 @@
 --   acknowledged-by    the answer, by what the crate ack answered
 --   judge-ack-is       the code's tests
 --   asked              an ACK that 2, 3, 7 and 8 do not refuse
---   ack-done           what the crate ack left makes up the answer
 -- Assumes nothing.
 use mathlib.Core.Path.{_≡_, sym, ap, _∙_}
 use mathlib.Core.Bool.{Bool}
-use mathlib.Core.List.{List}
 use Prim.Native.Nat.{ℕ, _^_}
 use lib.Dec.{leb}
 use lib.ListN.{length}
@@ -18,18 +16,16 @@ use Rattle.refusals.specs.Verdict.{when}
 use Rattle.refusals.specs.Verdict.Laws.{when-accepted}
 use Rattle.rules.specs.Refusals.{badRtt}
 use Rattle.inspect.specs.Kept.Stands.{kept-ready}
-use Rattle.ack.specs.declared.FullAck.{FullAck}
 use Rattle.ack.specs.declared.AckRtt.{AckRtt}
 use Rattle.ack.specs.declared.Acked.{Acked}
-use Rattle.ack.specs.Ack.{left, rttOf, update}
+use Rattle.ack.specs.Ack.{rttOf}
 use Rattle.ack.specs.Ack.Laws.{Asked}
 use Rattle.sender.specs.declared.Sender.{Sender}
-use Rattle.sender.specs.declared.Acknowledged.{Acknowledged}
 use Rattle.sender.specs.Books.{Books, stateOf, rulesOf, areasShort, judge}
 use Rattle.sender.specs.Books.Laws.{judged}
 use Rattle.sender.specs.Calls.{then}
 use Rattle.sender.specs.Calls.Laws.{then-accepted}
-use Rattle.sender.specs.Acks.{ackVerdict, acknowledged, acks, ackedBy}
+use Rattle.sender.specs.Acks.{ackVerdict, acknowledged}
 
 pub acknowledged-by : (s : Sender) (a x : Acked) → a ≡ x → acknowledged s x ≡ acknowledged s a
 acknowledged-by s a x e = ap (acknowledged s) (sym e)
@@ -53,8 +49,3 @@ module _ (g : Books) (n : ℕ) (rtt : AckRtt) where
       let a = when-accepted (leb (2 ^ 31) n) BadNumber (when (badRtt (rttOf rtt)) BadRtt Accepted) (both .1) in
       let b = when-accepted (badRtt (rttOf rtt)) BadRtt Accepted (a .1) in
       record { ready = kept-ready (rulesOf g) (stateOf g) (judged short g (both .0) .buffer); number = leb-false _ _ (a .0); ranged = b .0 }
-
-  pub ack-done : (full : FullAck) (a : Acked) (lost : List ℕ) (r : Acknowledged) → left a lost ≡ update (rulesOf g) (record { 0 = n }) full rtt (stateOf g)
-      → r ≡ acknowledged (g .sender) a
-      → acks r lost ≡ ackedBy (g .sender) (update (rulesOf g) (record { 0 = n }) full rtt (stateOf g))
-  ack-done full a lost r e f = rw f (ap (ackedBy (g .sender)) e)

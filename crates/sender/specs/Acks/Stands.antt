@@ -1,7 +1,7 @@
 -- An ACK on the sender and its lent areas is the ACK of the rules, for every sender that the books stand for and that keeps the book rules.
 --   verdictOf, saidOf, senderAfter   an answer's verdict, what it says, and the sender from then on
 --   Answers                          an outcome of the call is an answer of the rules
---   ack-is, ack-kept                 the call answers and leaves what the rules say, 11 alone a new RTT, and the next one finds the books kept
+--   ack-is                           the call answers and leaves what the rules say, 11 alone a new RTT
 --   ack-short, ack-broken            where an area is too short, and then where the books break a rule
 -- Assumes nothing.
 use mathlib.Core.Path.{_≡_, refl, sym, ap, _∙_}
@@ -25,8 +25,6 @@ use Rattle.rules.specs.Refusals as tests
 use Rattle.rules.specs.Refusals.{badRtt}
 use Rattle.rules.specs.Calls as calls
 use Rattle.rules.specs.Calls.Laws.{answer-by}
-use Rattle.rules.specs.Promises.{Given}
-use Rattle.buffer.specs.State.{settingsOf}
 use Rattle.ack.specs.declared.FullAck.{FullAck}
 use Rattle.ack.specs.declared.AckRtt.{AckRtt}
 use Rattle.ack.specs.declared.Acked.{Acked}
@@ -38,9 +36,9 @@ use Rattle.sender.specs.declared.Sender.{Sender}
 use Rattle.sender.specs.declared.Acknowledged.{Acknowledged}
 use Rattle.sender.specs.declared.Acknowledged.the-variants as done
 use Rattle.sender.specs.Books.{Books, books, stateOf, rulesOf, areasShort, kept, judge}
-use Rattle.sender.specs.Books.Stands.{StandsFor, stands-as, areas-long, judge-accepted, judge-short, judge-broken, next-kept}
+use Rattle.sender.specs.Books.Stands.{StandsFor, stands-as, areas-long, judge-accepted, judge-short, judge-broken}
 use Rattle.sender.specs.Calls.{senderOf}
-use Rattle.sender.specs.Acks.{ackVerdict, acknowledged, Acks, acks, ackedBy, ack}
+use Rattle.sender.specs.Acks.{ackVerdict, acknowledged, ack}
 
 abbrev pub verdictOf : Acknowledged → Verdict
 verdictOf (done.Done s a) = Accepted
@@ -54,12 +52,12 @@ abbrev pub senderAfter : Acknowledged → Sender
 senderAfter (done.Done s a) = s
 senderAfter (done.Refused s r) = s
 
--- the outcome l of the call is the answer a of the rules
-pub record Answers (g : Books) (l : Acks) (a : calls.Answer) : Type 0 where
-  pub verdict : verdictOf (l .answer) ≡ a .verdict
-  pub said : saidOf (l .answer) ≡ a .said
-  pub settings : senderAfter (l .answer) .settings ≡ g .sender .settings
-  pub stands : StandsFor (books (senderAfter (l .answer)) (g .ring) (l .lost)) (a .after)
+-- the outcome o of the call is the answer a of the rules
+pub record Answers (g : Books) (o : Acknowledged) (a : calls.Answer) : Type 0 where
+  pub verdict : verdictOf o ≡ a .verdict
+  pub said : saidOf o ≡ a .said
+  pub settings : senderAfter o .settings ≡ g .sender .settings
+  pub stands : StandsFor (books (senderAfter o) (g .ring) (g .lost)) (a .after)
 
 record Shown (s : Sender) (a : Acked) : Type 0 where
   pub verdict : verdictOf (acknowledged s a) ≡ Ack.verdictOf a
@@ -85,22 +83,21 @@ module _ (g : Books) (s : rules.Sender) (S : StandsFor g s) (K : Kept (rulesOf g
       (λ r e. cond-by (λ (t : rules.Sender). t .pacing ≡ s .pacing) (eqb (numberOf r) 11) (takeRtt (rttOf rtt) s) s (λ q. refl) (λ q. refl)) (λ e. refl)
 
   refused-by : (r : Refusal) → tests.ackVerdict c n (fullOf full) (rttOf rtt) s ≡ Refused r → eqb (numberOf r) 11 ≡ false
-      → Answers g (acks (done.Refused (g .sender) r) (g .lost)) (calls.answer c call s)
+      → Answers g (done.Refused (g .sender) r) (calls.answer c call s)
   unfolding calls.answer calls.verdictOf calls.answerBy calls.left
   refused-by r e h = rw e (record { verdict = refl; said = refl; settings = refl; stands = rw h S })
 
   taken : leb (2 ^ 31) n ≡ false → badRtt (rttOf rtt) ≡ false
-      → Answers g (ackedBy (g .sender) (update c (record { 0 = n }) full rtt (stateOf g))) (calls.answer c call s)
+      → Answers g (acknowledged (g .sender) (update c (record { 0 = n }) full rtt (stateOf g))) (calls.answer c call s)
   taken e b =
-      let l : Ack.Left = update c (record { 0 = n }) full rtt (stateOf g) in
       let A = update-is (S .buffer) K (record { 0 = n }) (leb-false (2 ^ 31) n e) full rtt b in
-      let H = shown (g .sender) (l .answer) in
+      let H = shown (g .sender) (update c (record { 0 = n }) full rtt (stateOf g)) in
       record {
         verdict = H .verdict ∙ A .verdict;
         said = H .said ∙ A .said;
         settings = ap (λ (t : Sender). t .settings) (H .sender);
         stands =
-            stands-as _ _ (g .ring) (l .lost) (calls.answer c call s .after) (H .sender)
+            stands-as _ _ (g .ring) (g .lost) (calls.answer c call s .after) (H .sender)
             (record { buffer = A .stands; pacing = S .pacing ∙ sym ack-pacing });
       }
 
@@ -109,8 +106,8 @@ module _ (g : Books) (s : rules.Sender) (S : StandsFor g s) (K : Kept (rulesOf g
 
   go : (a b : Bool) → leb (2 ^ 31) n ≡ a → badRtt (rttOf rtt) ≡ b
       → Answers g
-      (answer (λ r. acks (done.Refused (g .sender) r) (g .lost)) (when a BadNumber (when b BadRtt Accepted))
-      (ackedBy (g .sender) (update c (record { 0 = n }) full rtt (stateOf g)))) (calls.answer c call s)
+      (answer (done.Refused (g .sender)) (when a BadNumber (when b BadRtt Accepted))
+      (acknowledged (g .sender) (update c (record { 0 = n }) full rtt (stateOf g)))) (calls.answer c call s)
   unfolding tests.ackVerdict
   go true b e f = refused-by BadNumber (rw (facts-kept c s K, e)) refl
   go false true e f = refused-by BadRtt (rw (facts-kept c s K, e, f)) refl
@@ -120,16 +117,12 @@ module _ (g : Books) (s : rules.Sender) (S : StandsFor g s) (K : Kept (rulesOf g
   unfolding ack ackVerdict
   ack-is = rw judged (go (leb (2 ^ 31) n) (badRtt (rttOf rtt)) refl refl)
 
-  -- the full number is a u32
-  pub ack-kept : Given call → let l = ack g n full rtt in kept (books (senderAfter (l .answer)) (g .ring) (l .lost)) ≡ true
-  ack-kept h = next-kept g s S call h K _ (ap settingsOf (ack-is .settings)) (ack-is .stands)
-
 module _ (g : Books) (n : ℕ) (full : FullAck) (rtt : AckRtt) where
-  pub ack-short : areasShort (rulesOf g) (length (g .ring)) (length (g .lost)) ≡ true → ack g n full rtt ≡ acks (done.Refused (g .sender) BadStore) (g .lost)
+  pub ack-short : areasShort (rulesOf g) (length (g .ring)) (length (g .lost)) ≡ true → ack g n full rtt ≡ done.Refused (g .sender) BadStore
   unfolding ack ackVerdict
   ack-short e = rw (e, judge-short g)
 
   pub ack-broken : areasShort (rulesOf g) (length (g .ring)) (length (g .lost)) ≡ false → kept g ≡ false
-      → ack g n full rtt ≡ acks (done.Refused (g .sender) BadState) (g .lost)
+      → ack g n full rtt ≡ done.Refused (g .sender) BadState
   unfolding ack ackVerdict
   ack-broken e b = rw (e, judge-broken g b)

@@ -4,7 +4,6 @@
 --   stands-as                the same sender, by an equation
 --   areas-long               its areas are long enough
 --   judge-accepted, judge-broken, judge-short   what the two tests come to
---   next-kept                after any call of such a sender the books that stand for what it leaves are kept: the next call does not answer 3
 -- Assumes nothing.
 use mathlib.Core.Path.{_≡_, refl}
 use mathlib.Core.Bool.{Bool, true, false, _&&_, _||_, and-eq-true-iff}
@@ -19,9 +18,6 @@ use Rattle.pacing.specs.Books as Pacing
 use Rattle.rules.specs.Settings.{inRange, capacity}
 use Rattle.rules.specs.Sender as rules
 use Rattle.rules.specs.Books.Laws.{Kept}
-use Rattle.rules.specs.Calls.{Call, answer}
-use Rattle.rules.specs.Promises.{Given}
-use Rattle.rules.proofs.CallsKept.{answer-kept}
 use Rattle.buffer.specs.State.Stands.{Stands}
 use Rattle.inspect.specs.Kept as Buffer
 use Rattle.inspect.specs.Kept.Stands.{seenAs, kept-stands, kept-rules, ready-kept}
@@ -57,14 +53,6 @@ module _ (g : Books) (s : rules.Sender) (S : StandsFor g s) where
   pub judge-accepted : Kept (rulesOf g) s → (short : Bool) → short ≡ false → judge short g ≡ Accepted
   unfolding judge
   judge-accepted K short e = rw (e, kept-is K)
-
-  pub next-kept : (k : Call) → Given k → Kept (rulesOf g) s → (after : Books) → rulesOf after ≡ rulesOf g
-      → StandsFor after (answer (rulesOf g) k s .after)
-      → kept after ≡ true
-  unfolding kept
-  next-kept k h K after e A =
-      let L = answer-kept (rulesOf g) k s h K in
-      rw (ready-kept (A .buffer) (rw e L), A .pacing) (L .fields .pacing)
 
 -- books that keep the rules stand for a sender that does
 module _ (g : Books) (e : kept g ≡ true) where

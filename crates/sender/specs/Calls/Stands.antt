@@ -3,9 +3,9 @@
 --   verdictOf, saidOf, senderAfter   an answer's verdict, what it says, and the sender from then on
 --   Answers                          an outcome of the call is an answer of the rules, and the store is theirs
 --   verdict-is                       the tests come to what they do in the rules
---   message-is, message-kept         the call answers and leaves what the rules say, and the next one finds the books kept
+--   message-is                       the call answers and leaves what the rules say
 --   message-short, message-broken    where an area is too short, and then where the books break a rule
---   made-verdict, made-stands, made-kept   a sender asked for: its verdict, and that it is the rules' fresh one
+--   made-verdict, made-stands        a sender asked for: its verdict, and that it is the rules' fresh one
 -- Assumes nothing.
 use mathlib.Core.Path.{_≡_, refl, sym, ap, _∙_}
 use mathlib.Core.Bool.{Bool, true, false, cond}
@@ -27,7 +27,6 @@ use Rattle.pacing.specs.declared.SenderCongestionControl.{SenderCongestionContr
 use Rattle.pacing.specs.declared.Paced.{Paced}
 use Rattle.pacing.specs.declared.Paced.the-variants as paced
 use Rattle.pacing.specs.declared.options.LiveBandwidthMode.{LiveBandwidthMode}
-use Rattle.pacing.specs.Period.{modeInRange}
 use Rattle.pacing.specs.Books as Pacing
 use Rattle.pacing.specs.Pacing.{after, due, input, moved, sndPeriod}
 use Rattle.rules.specs.Settings.{Settings, storeSize, inRange, capacity}
@@ -37,7 +36,6 @@ use Rattle.rules.specs.Books.Laws.{Kept, facts-kept}
 use Rattle.rules.specs.Message.{periodOf, push, pushAll, append, makeRoom, begin, packetsOf}
 use Rattle.rules.specs.Refusals as tests
 use Rattle.rules.specs.Calls as calls
-use Rattle.rules.proofs.CallsKept.{fresh-kept}
 use Rattle.buffer.specs.declared.Settings as code
 use Rattle.buffer.specs.State.{settingsOf, fresh}
 use Rattle.buffer.specs.State.Fresh.{fresh-stands}
@@ -52,7 +50,7 @@ use Rattle.sender.specs.declared.NewPeriod.the-variants as period
 use Rattle.sender.specs.declared.Messaged.{Messaged}
 use Rattle.sender.specs.declared.Messaged.the-variants as messaged
 use Rattle.sender.specs.Books.{Books, books, stateOf, rulesOf, storeShort, kept, judge}
-use Rattle.sender.specs.Books.Stands.{StandsFor, stands-as, kept-is, areas-long, judge-accepted, judge-short, judge-broken, next-kept}
+use Rattle.sender.specs.Books.Stands.{StandsFor, stands-as, areas-long, judge-accepted, judge-short, judge-broken}
 use Rattle.sender.specs.Calls.{senderOf, made, countIsFull, inputVerdict, messageVerdict, shortFor, finished, Messages, area, pushedOf, done, message}
 
 abbrev pub verdictOf : Messaged → Verdict
@@ -157,9 +155,6 @@ module _ (g : Books) (s : rules.Sender) (S : StandsFor g s) (K : Kept (rulesOf g
     unfolding message calls.answer calls.verdictOf calls.storeAfter
     message-is = rw verdict-is (go (tests.messageVerdict c time now (length payload) s))
 
-    pub message-kept : let l = message g time now payload store in kept (books (senderAfter (g .sender) (l .answer)) (l .ring) (l .lost)) ≡ true
-    message-kept = next-kept g s S call tt K _ (ap settingsOf (message-is .settings)) (message-is .stands)
-
 module _ (g : Books) (time now : ℕ) (payload store : List ℕ) where
   abbrev refused : Refusal → Messages
   refused r = area (messaged.Refused r) (g .ring) (g .lost) store
@@ -192,10 +187,3 @@ module _ (c : code.Settings) (mode : LiveBandwidthMode) where
       → StandsFor (books (senderOf c (fresh (settingsOf c)) (Pacing.fresh mode)) ring lost) (rules.fresh (settingsOf c) mode)
   unfolding rules.fresh
   made-stands ring lost e area room = record { buffer = fresh-stands (settingsOf c) mode ring lost e area room; pacing = refl }
-
-  pub made-kept : (ring lost : List ℕ) → inRange (settingsOf c) ≡ true → modeInRange mode ≡ true → capacity (settingsOf c) * 6 ≤ length ring
-      → capacity (settingsOf c) ≤ length lost
-      → kept (books (senderOf c (fresh (settingsOf c)) (Pacing.fresh mode)) ring lost) ≡ true
-  made-kept ring lost e m area room =
-      kept-is (books (senderOf c (fresh (settingsOf c)) (Pacing.fresh mode)) ring lost) (rules.fresh (settingsOf c) mode) (made-stands ring lost e area room)
-      (fresh-kept (settingsOf c) mode e m)

@@ -6,7 +6,6 @@ use Rattle.sender_run.specs.Runs.Laws.{judge-run-is}
 use borrow.Author.Needs.{needs}
 use Rattle.sender_run.proofs.judge_run.Statement.{statement}
 use Rattle.sender_run.proofs.judge_run.Tie as tie
-use Rattle.sender_run.proofs.judge_run.Reads as reads
 
 areas-short-requires : tie.Need-areas-short-requires
 areas-short-requires c κs = search needs

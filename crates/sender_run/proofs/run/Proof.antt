@@ -1,4 +1,4 @@
--- `sender_run::run` meets its contract.
+-- `sender_run::run` meets its contract: refused with all as it was, or run as the crate run does.
 -- Assumes nothing.
 use mathlib.Core.Path.{sym, _∙_}
 use Rattle.refusals.specs.Verdict.Laws.{answer-refused, answer-accepted}
@@ -18,32 +18,28 @@ enum-told : tie.Need-enum-told
 enum-told c = search needs
 
 next-snd-actions-requires : tie.Need-next-snd-actions-requires
-next-snd-actions-requires c κs = runnable _ _ _ _ (sym (c .before .before .before .before .before .before .before .judge-run .ensures) ∙ c .before .before .before .before .before .enum-told .given .1)
+next-snd-actions-requires c κs =
+    let told = c .before .before .before .before in
+    runnable _ _ _ _ (sym (told .before .before .judge-run .ensures) ∙ told .enum-told .given .1)
 
 same-length : tie.Need-same-length
 same-length c = search needs
-
-same-length-2 : tie.Need-same-length-2
-same-length-2 c = search needs
 
 returns : tie.Need-returns
 unfolding run
 returns c = answer-refused _ _ _ _ (c .before .before .before .judge-run .ensures) _ (c .before .r .given .1)
 
+same-length-2 : tie.Need-same-length-2
+same-length-2 c = search needs
+
 same-length-3 : tie.Need-same-length-3
 same-length-3 c = search needs
-
-same-length-4 : tie.Need-same-length-4
-same-length-4 c = search needs
-
-same-length-5 : tie.Need-same-length-5
-same-length-5 c = search needs
 
 returns-2 : tie.Need-returns-2
 unfolding run
 returns-2 c =
     let ran = c .before .before .before .before .before in
-    let told = ran .before .before .before .before .before .before in
+    let told = ran .before .before .before .before .before in
     run-done _ _ _ _ _ _ _ _ _ _ _ (ran .next-snd-actions .ensures)
     ∙ answer-accepted _ _ _ _ (told .before .before .judge-run .ensures) (told .enum-told .given .1)
 
@@ -56,9 +52,7 @@ run-spec =
     enum-told
     next-snd-actions-requires
     same-length
-    same-length-2
     returns
+    same-length-2
     same-length-3
-    same-length-4
-    same-length-5
     returns-2)

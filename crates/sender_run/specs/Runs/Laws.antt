@@ -3,11 +3,10 @@
 --   runnable         a run that no test refuses
 --   run-done         what the run left makes up the answer
 -- Assumes nothing.
-use mathlib.Core.Path.{_≡_, refl, sym, ap, _∙_}
+use mathlib.Core.Path.{_≡_, ap, _∙_}
 use mathlib.Core.Bool.{Bool}
 use mathlib.Core.List.{List}
-use Prim.Native.Nat.{ℕ, _+_, _*_, _^_, min}
-use native.Mathlib.Omega.{arith}
+use Prim.Native.Nat.{ℕ, _^_}
 use lib.Dec.{ltb, leb}
 use lib.ListN.{length}
 use borrow.Author.Tests.{leb-false, ltb-false}
@@ -20,7 +19,7 @@ use Rattle.inspect.specs.Kept.Stands.{kept-ready}
 use Rattle.buffer.specs.State.{state}
 use Rattle.buffer.specs.declared.SendBuffer.{SendBuffer}
 use Rattle.run.specs.Run as Run
-use Rattle.run.specs.Run.{World, world}
+use Rattle.run.specs.Run.{world}
 use Rattle.run.specs.Run.Turns.{Runnable}
 use Rattle.sender.specs.Books.{Books, stateOf, rulesOf, areasShort, judge}
 use Rattle.sender.specs.Books.Laws.{judged}

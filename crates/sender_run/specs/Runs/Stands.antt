@@ -7,8 +7,8 @@
 -- Assumes nothing.
 use mathlib.Core.Path.{_≡_, refl, sym, ap, _∙_, subst}
 use mathlib.Core.Bool.{Bool, true, false, _&&_, cond}
-use mathlib.Core.List.{List, [], _++_}
-use Prim.Native.Nat.{ℕ, zero, suc, _+_, _-_, _*_, _/_, _%_, _^_, _≤_, _<_, min}
+use mathlib.Core.List.{List, _++_}
+use Prim.Native.Nat.{ℕ, zero, suc, _+_, _-_, _*_, _/_, _%_, _^_, _<_, min}
 use native.Mathlib.Nat.{zero-add}
 use native.Mathlib.Decide.{decLt}
 use native.Mathlib.Omega.{arith}
@@ -35,11 +35,10 @@ use Rattle.rules.proofs.Split.{loop-end, loop-on}
 use Rattle.buffer.specs.State.View.{packets-length}
 use Rattle.sending.specs.Sending.{written}
 use Rattle.run.specs.Run as Run
-use Rattle.run.specs.Run.Laws.Whole.{WorldStands, run-stands}
+use Rattle.run.specs.Run.Laws.Whole.{run-stands}
 use Rattle.sender.specs.declared.Sender.{Sender}
 use Rattle.sender.specs.Books.{Books, books, stateOf, rulesOf, areasShort, kept, judge}
 use Rattle.sender.specs.Books.Stands.{StandsFor, areas-long, judge-accepted, judge-short, judge-broken}
-use Rattle.sender.specs.Calls.{senderOf, then}
 use Rattle.sender_run.specs.declared.Ran.{Ran}
 use Rattle.sender_run.specs.declared.Ran.the-variants as ran
 use Rattle.sender_run.specs.Runs.{Runs, runs, roomFor, runVerdict, ranBy, run}

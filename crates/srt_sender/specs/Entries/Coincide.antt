@@ -9,19 +9,20 @@ use Rattle.encapsulate.specs.Header.{header}
 use Rattle.rtt.specs.declared.Rtt.{Rtt}
 use Rattle.timers.specs.declared.Timers.{Timers}
 use Rattle.timers.specs.Timers as T
-use Rattle.timers.specs.Wake.{nextTimer}
-use Rattle.timers.specs.Checks.{checkSnd, checkFullAck, checkNak, checkStatistics, checkPeerIdleTimeout}
+use Rattle.checks.specs.Wake.{nextTimer}
+use Rattle.checks.specs.Checks.{checkSnd, checkFullAck, checkNak, checkStatistics, checkPeerIdleTimeout}
 use Rattle.buffer.specs.declared.Settings.{Settings}
 use Rattle.sender.specs.Calls.{made}
 use Rattle.flat.specs.declared.senders.FlatSender.{FlatSender}
-use Rattle.flat.specs.declared.replies.NewAnswer.{NewAnswer}
-use Rattle.flat.specs.declared.replies.PayloadAnswer.{PayloadAnswer}
-use Rattle.flat.specs.declared.replies.ReportsAnswer.{ReportsAnswer}
+use Rattle.flat.specs.declared.acks.AckAnswer.{AckAnswer}
+use Rattle.flat.specs.declared.starts.NewAnswer.{NewAnswer}
+use Rattle.flat.specs.declared.questions.PayloadAnswer.{PayloadAnswer}
+use Rattle.flat.specs.declared.questions.ReportsAnswer.{ReportsAnswer}
 use Rattle.flat.specs.Senders.{modeOf}
 use Rattle.flat.specs.Replies.{newOf, payloadOf, reportsOf, fullOf, rttOf}
 use Rattle.srt_sender.specs.declared.of_timers.TimersAnswer.{TimersAnswer}
 use Rattle.srt_sender.specs.declared.of_timers.NanosecondsAnswer.{NanosecondsAnswer}
-use Rattle.srt_sender.specs.Entries.{Messaged, message, Acknowledged, ack, Reported, nak, Ran, run, payload, reports}
+use Rattle.srt_sender.specs.Entries.{Messaged, message, ack, Reported, nak, Ran, run, payload, reports}
 use Rattle.srt_sender.specs.Packet.{placeOf}
 use Rattle.srt_sender.specs.TimersAnswers.{nanoseconds, blanks, timersSet, timersChecked, nextMessage}
 
@@ -42,7 +43,7 @@ module _ (f : FlatSender) (ring lost : List ℕ) where
   pub message-coincide : (time now : ℕ) (bytes store : List ℕ) → Coincide {A = Messaged} (message f time now bytes ring lost store)
   message-coincide time now bytes store = both (message f time now bytes ring lost store)
 
-  pub ack-coincide : (n : ℕ) (full : Bool) (k : ℕ) (measured : Bool) (r : Rtt) → Coincide {A = Acknowledged} (ack f n (fullOf full k) (rttOf measured r) ring lost)
+  pub ack-coincide : (n : ℕ) (full : Bool) (k : ℕ) (measured : Bool) (r : Rtt) → Coincide {A = AckAnswer} (ack f n (fullOf full k) (rttOf measured r) ring lost)
   ack-coincide n full k measured r = both (ack f n (fullOf full k) (rttOf measured r) ring lost)
 
   pub nak-coincide : (words out : List ℕ) → Coincide {A = Reported} (nak f words ring lost out)

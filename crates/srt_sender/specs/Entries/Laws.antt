@@ -71,8 +71,7 @@ enter (calls.message time now bytes) h =
     let l = message (h .kept) time now bytes (h .ring) (h .lost) (h .store) in
     record { kept = l .answer .sender; ring = l .ring; lost = l .lost; store = l .store }
 enter (calls.ack n full rtt) h =
-    let l = ack (h .kept) n full rtt (h .ring) (h .lost) in
-    record { kept = l .answer .sender; ring = h .ring; lost = l .lost; store = h .store }
+    record { kept = ack (h .kept) n full rtt (h .ring) (h .lost) .sender; ring = h .ring; lost = h .lost; store = h .store }
 enter (calls.nak words list) h =
     let l = nak (h .kept) words (h .ring) (h .lost) list in
     record { kept = l .answer .sender; ring = h .ring; lost = l .lost; store = h .store }
@@ -101,7 +100,7 @@ module _ (f : FlatSender) where
 
 -- what a refused ACK leaves, from what `promises` says
 refused-sender : (w : World) (n : ℕ) (full : FullAck) (rtt : AckRtt) (s : Sender) (r : Refusal)
-    → Acks.ack (w .books) n full rtt .answer ≡ acknowledged.Refused s r → (numberOf r ≡ 11 → ⊥) → s ≡ w .books .sender
+    → Acks.ack (w .books) n full rtt ≡ acknowledged.Refused s r → (numberOf r ≡ 11 → ⊥) → s ≡ w .books .sender
 unfolding verdictIn after
 refused-sender w n full rtt s r e o =
     sym (ap Ack.senderAfter e) ∙ ap (λ (v : World). v .books .sender) (refused-stays (calls.ack n full rtt) w r (ap Ack.verdictOf e) o)
@@ -114,9 +113,8 @@ entered-is (calls.message time now bytes) h =
     let l = Calls.message (booksOf (h .kept) (h .ring) (h .lost)) time now bytes (h .store) in
     ap (λ (s : Sender). record { books = record { sender = s; ring = l .ring; lost = l .lost }; store = l .store }) (message-after (h .kept) (l .answer))
 entered-is (calls.ack n full rtt) h =
-    let l = Acks.ack (booksOf (h .kept) (h .ring) (h .lost)) n full rtt in
-    ap (λ (s : Sender). record { books = record { sender = s; ring = h .ring; lost = l .lost }; store = h .store })
-    (ack-after (h .kept) (l .answer) (λ s r. refused-sender (worldOf h) n full rtt s r))
+    ap (λ (s : Sender). record { books = record { sender = s; ring = h .ring; lost = h .lost }; store = h .store })
+    (ack-after (h .kept) (Acks.ack (booksOf (h .kept) (h .ring) (h .lost)) n full rtt) (λ s r. refused-sender (worldOf h) n full rtt s r))
 entered-is (calls.nak words list) h =
     let l = Naks.nak (booksOf (h .kept) (h .ring) (h .lost)) words list in
     ap (λ (s : Sender). record { books = record { sender = s; ring = h .ring; lost = l .lost }; store = h .store }) (nak-after (h .kept) (l .answer))

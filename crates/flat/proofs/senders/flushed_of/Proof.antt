@@ -2,7 +2,6 @@
 -- Assumes nothing.
 use Rattle.flat.specs.Senders.{flushedOf}
 use borrow.Author.Tests.{eq-eqb, ne-eqb}
-use borrow.Author.Needs.{needs}
 use Rattle.flat.proofs.senders.flushed_of.Statement.{statement}
 use Rattle.flat.proofs.senders.flushed_of.Tie as tie
 

@@ -3,7 +3,7 @@
 use mathlib.Core.Path.{sym, _∙_}
 use Rattle.refusals.specs.Verdict.Laws.{answer-refused, answer-accepted}
 use Rattle.sender.specs.Acks.{ack}
-use Rattle.sender.specs.Acks.Laws.{asked, ack-done}
+use Rattle.sender.specs.Acks.Laws.{acknowledged-by, asked}
 use borrow.Author.Needs.{needs}
 use Rattle.sender.proofs.Sender.ack.Statement.{statement}
 use Rattle.sender.proofs.Sender.ack.Tie as tie
@@ -19,28 +19,22 @@ enum-told c = search needs
 
 update-largest-acked-seq-number-requires : tie.Need-update-largest-acked-seq-number-requires
 update-largest-acked-seq-number-requires c κs =
-    let told = c .before in
-    asked _ _ _ (sym (told .before .before .judge-ack .ensures) ∙ told .enum-told .given .1)
+    asked _ _ _ (sym (c .before .before .judge-ack .ensures) ∙ c .enum-told .given .1)
 
 acknowledge-requires : tie.Need-acknowledge-requires
 acknowledge-requires c κs = search needs
-
-same-length : tie.Need-same-length
-same-length c = search needs
 
 returns : tie.Need-returns
 unfolding ack
 returns c = answer-refused _ _ _ _ (c .before .before .before .judge-ack .ensures) _ (c .before .r .given .1)
 
-same-length-2 : tie.Need-same-length-2
-same-length-2 c = search needs
-
 returns-2 : tie.Need-returns-2
 unfolding ack
 returns-2 c =
     let done = c .before in
-    let told = done .before .before in
-    ack-done _ _ _ _ _ _ _ (done .update-largest-acked-seq-number .ensures) (c .acknowledge .ensures)
+    let told = done .before in
+    c .acknowledge .ensures
+    ∙ acknowledged-by _ _ _ (sym (done .update-largest-acked-seq-number .ensures))
     ∙ answer-accepted _ _ _ _ (told .before .before .judge-ack .ensures) (told .enum-told .given .1)
 
 pub ack-spec : {M : Type 1} → statement M
@@ -52,7 +46,5 @@ ack-spec =
     enum-told
     update-largest-acked-seq-number-requires
     acknowledge-requires
-    same-length
     returns
-    same-length-2
     returns-2)

@@ -19,33 +19,27 @@ enum-told c = search needs
 
 push-requires : tie.Need-push-requires
 push-requires c κs =
-    let told = c .before .before .before in
+    let told = c .before .before in
     pushable _ _ _ _ _ (sym (told .before .before .judge-message .ensures) ∙ told .enum-told .given .1)
 
 same-length : tie.Need-same-length
 same-length c = search needs
 
-same-length-2 : tie.Need-same-length-2
-same-length-2 c = search needs
-
 returns : tie.Need-returns
 unfolding message
 returns c = answer-refused _ _ _ _ (c .before .before .before .judge-message .ensures) _ (c .before .r .given .1)
 
+same-length-2 : tie.Need-same-length-2
+same-length-2 c = search needs
+
 same-length-3 : tie.Need-same-length-3
 same-length-3 c = search needs
-
-same-length-4 : tie.Need-same-length-4
-same-length-4 c = search needs
-
-same-length-5 : tie.Need-same-length-5
-same-length-5 c = search needs
 
 returns-2 : tie.Need-returns-2
 unfolding message
 returns-2 c =
     let p = c .before .before .before .before in
-    let told = p .before .before .before .before in
+    let told = p .before .before .before in
     p .push .ensures ∙ answer-accepted _ _ _ _ (told .before .before .judge-message .ensures) (told .enum-told .given .1)
 
 pub message-spec : {M : Type 1} → statement M
@@ -57,9 +51,7 @@ message-spec =
     enum-told
     push-requires
     same-length
-    same-length-2
     returns
+    same-length-2
     same-length-3
-    same-length-4
-    same-length-5
     returns-2)

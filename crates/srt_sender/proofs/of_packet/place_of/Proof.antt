@@ -2,7 +2,6 @@
 -- Assumes nothing.
 use borrow.Author.Tests.{eq-eqb, ne-eqb}
 use Rattle.srt_sender.specs.Packet.{placeOf}
-use borrow.Author.Needs.{needs}
 use Rattle.srt_sender.proofs.of_packet.place_of.Statement.{statement}
 use Rattle.srt_sender.proofs.of_packet.place_of.Tie as tie
 

@@ -20,12 +20,12 @@ ack-requires c κs = search needs
 ack-answer-requires : tie.Need-ack-answer-requires
 ack-answer-requires c κs = search needs
 
-same-length : tie.Need-same-length
-same-length c = search needs
-
 returns : tie.Need-returns
-returns c = rw (← c .before .before .before .before .before .before .full-of .ensures, ← c .before .before .before .before .before .rtt-of .ensures)
-    (ack-entered _ _ (c .before .before .before .before .before .before .before .sender .ensures) _ _ _ _ _ _ _ _ (c .before .before .before .ack .ensures) (c .ack-answer .ensures))
+returns c =
+    let brought = c .before .before in
+    let full = brought .before in
+    rw (← full .full-of .ensures, ← brought .rtt-of .ensures)
+    (ack-entered _ _ (full .before .sender .ensures) _ _ _ _ _ _ _ (c .before .ack .ensures) (c .ack-answer .ensures))
 
 pub srt-entry-ack-spec : {M : Type 1} → statement M
 srt-entry-ack-spec =
@@ -36,5 +36,4 @@ srt-entry-ack-spec =
     rtt-of-requires
     ack-requires
     ack-answer-requires
-    same-length
     returns)

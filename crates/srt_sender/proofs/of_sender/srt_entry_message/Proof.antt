@@ -20,11 +20,10 @@ same-length c = search needs
 same-length-2 : tie.Need-same-length-2
 same-length-2 c = search needs
 
-same-length-3 : tie.Need-same-length-3
-same-length-3 c = search needs
-
 returns : tie.Need-returns
-returns c = message-entered _ _ (c .before .before .before .before .before .before .before .before .before .before .before .sender .ensures) _ _ _ _ _ _ _ _ _ _ _ (c .before .before .before .before .before .before .before .message .ensures) (c .message-answer .ensures)
+returns c =
+    let m = c .before .before .before .before .before in
+    message-entered _ _ (m .before .before .before .sender .ensures) _ _ _ _ _ _ _ _ _ _ _ (m .message .ensures) (c .message-answer .ensures)
 
 pub srt-entry-message-spec : {M : Type 1} → statement M
 srt-entry-message-spec =
@@ -35,5 +34,4 @@ srt-entry-message-spec =
     message-answer-requires
     same-length
     same-length-2
-    same-length-3
     returns)

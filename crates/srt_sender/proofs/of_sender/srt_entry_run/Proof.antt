@@ -20,11 +20,10 @@ same-length c = search needs
 same-length-2 : tie.Need-same-length-2
 same-length-2 c = search needs
 
-same-length-3 : tie.Need-same-length-3
-same-length-3 c = search needs
-
 returns : tie.Need-returns
-returns c = run-entered _ _ (c .before .before .before .before .before .before .before .before .before .before .before .sender .ensures) _ _ _ _ _ _ _ _ _ _ _ (c .before .before .before .before .before .before .before .run .ensures) (c .run-answer .ensures)
+returns c =
+    let ran = c .before .before .before .before .before in
+    run-entered _ _ (ran .before .before .before .sender .ensures) _ _ _ _ _ _ _ _ _ _ _ (ran .run .ensures) (c .run-answer .ensures)
 
 pub srt-entry-run-spec : {M : Type 1} → statement M
 srt-entry-run-spec =
@@ -35,5 +34,4 @@ srt-entry-run-spec =
     run-answer-requires
     same-length
     same-length-2
-    same-length-3
     returns)

@@ -1,0 +1,43 @@
+-- `sender::judging::judge_ack` meets its contract: its tests in their order (`judge-ack-is`).
+-- Assumes nothing.
+use Rattle.sender.specs.Acks.Laws.{judge-ack-is}
+use borrow.Author.Needs.{needs}
+use Rattle.sender.proofs.judging.judge_ack.Statement.{statement}
+use Rattle.sender.proofs.judging.judge_ack.Tie as tie
+
+areas-short-requires : tie.Need-areas-short-requires
+areas-short-requires c κs = search needs
+
+judge-requires : tie.Need-judge-requires
+judge-requires c κs = search needs
+
+rtt-is-bad-requires : tie.Need-rtt-is-bad-requires
+rtt-is-bad-requires c κs = search needs
+
+when-requires : tie.Need-when-requires
+when-requires c κs = search needs
+
+when-requires-2 : tie.Need-when-requires-2
+when-requires-2 c κs = search needs
+
+then-requires : tie.Need-then-requires
+then-requires c κs = search needs
+
+returns : tie.Need-returns
+returns c =
+    let t = c .before .before in
+    let v = t .before .before in
+    judge-ack-is _ _ _ _ _ _ _ _ _ (v .before .areas-short .ensures) (v .judge .ensures) (t .before .rtt-is-bad .ensures) (t .when .ensures)
+    (c .before .when2 .ensures) (c .then .ensures)
+
+pub judge-ack-spec : {M : Type 1} → statement M
+judge-ack-spec =
+    tie.close
+    (tie.spec
+    areas-short-requires
+    judge-requires
+    rtt-is-bad-requires
+    when-requires
+    when-requires-2
+    then-requires
+    returns)
