@@ -14,8 +14,8 @@ fn message(length: u64) -> Numbers {
 }
 
 /// Each call with its answer: an area too short, a kept number out of its
-/// range, a byte count at its end and one below it.
-fn all() -> [(Numbers, &'static str); 9] {
+/// range, a message too long, a byte count at its end and one below it.
+fn all() -> [(Numbers, &'static str); 10] {
     [
         (new(65), "done"),
         (message(10), "refused 2 BadStore"),
@@ -24,6 +24,7 @@ fn all() -> [(Numbers, &'static str); 9] {
         (message(10), "refused 3 BadState"),
         (new(4), "done"),
         (numbers(&[9, (1 << 62) - 10]), "done"),
+        (message(1_048_577), "refused 5 TooLong"),
         (message(10), "refused 6 CountFull"),
         (message(9), "made 3 removed 0 bytes 0 period -"),
     ]

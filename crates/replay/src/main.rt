@@ -1,16 +1,15 @@
 // Answers a stored script of calls of the leaves: 64 bytes in for each call, a line out. The gate holds the lines against crates/replay/stdout,
 // which the Rust wrote (compare/README.md, "The stored sample"), so that a clone without the Rust still hears what it answers.
-use flat::senders::FlatPacing;
+use flat::pacings::FlatPacing;
 use leaves::of_pacing::leaves_pacing_new;
 use leaves::of_timer::leaves_timer_new;
-use record::Record;
 use srt_sender::of_timers::srt_entry_timers_new;
+use stored::Record;
 use timer::Timer;
 use timers::Timers;
 
 mod message_calls;
 mod pacing_calls;
-mod record;
 mod show;
 mod timer_calls;
 mod timers_calls;
@@ -81,7 +80,7 @@ fn step(bench: Bench) -> Turn {
     }
     Turn {
         more: true,
-        bench: call(bench, record::read(&bytes)),
+        bench: call(bench, stored::read(&bytes)),
     }
 }
 

@@ -1,11 +1,10 @@
 // Splitting, and headers.
-use crate::record::Record;
-use crate::record::low;
-use crate::record::wide;
 use crate::show;
 use leaves::of_message::leaves_split_packet;
 use leaves::of_message::leaves_split_packets;
 use srt_sender::of_packet::srt_entry_header;
+use stored::Record;
+use stored::low;
 
 fn show_packet(len: usize, size: usize, k: usize) {
     let a = leaves_split_packet(len, size, k);
@@ -34,7 +33,7 @@ fn split(size: usize, len: usize) {
 fn show_bytes(bytes: [u8; 16]) {
     let mut k = 0;
     while k < 16 {
-        show::decimal(wide(bytes[k]));
+        show::byte(bytes[k]);
         k += 1;
     }
 }

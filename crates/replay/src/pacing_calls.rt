@@ -1,12 +1,12 @@
 // The calls of pacing.
-use crate::record::Record;
-use crate::record::low;
 use crate::show;
-use flat::senders::FlatPacing;
+use flat::pacings::FlatPacing;
 use leaves::of_pacing::PacingAnswer;
 use leaves::of_pacing::leaves_pacing_new;
 use leaves::of_pacing::leaves_pacing_on_input;
 use pacing::rate::RateEstimation;
+use stored::Record;
+use stored::low;
 
 fn answer(pacing: FlatPacing, r: Record) -> PacingAnswer {
     if r.operation == 13 {

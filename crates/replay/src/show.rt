@@ -11,6 +11,10 @@ pub(crate) fn decimal(n: u64) {
     io::print_decimal(STDOUT_FILENO, n);
 }
 
+pub(crate) fn byte(b: u8) {
+    decimal(b as u64);
+}
+
 pub(crate) fn end() {
     text(b"\n");
 }

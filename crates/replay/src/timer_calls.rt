@@ -1,5 +1,4 @@
 // The calls of one timer.
-use crate::record::Record;
 use crate::show;
 use leaves::of_timer::TimerAnswer;
 use leaves::of_timer::leaves_timer_check_expired;
@@ -9,6 +8,7 @@ use leaves::of_timer::leaves_timer_period;
 use leaves::of_timer::leaves_timer_reset;
 use leaves::of_timer::leaves_timer_set_period;
 use srt_sender::of_timers::NanosecondsAnswer;
+use stored::Record;
 use timer::Timer;
 
 fn answer(timer: Timer, r: Record) -> TimerAnswer {

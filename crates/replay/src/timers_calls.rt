@@ -1,6 +1,4 @@
 // The calls of all timers.
-use crate::record::Record;
-use crate::record::low;
 use crate::show;
 use crate::timer_calls::show_nanoseconds;
 use crate::timer_calls::show_timer;
@@ -16,6 +14,8 @@ use srt_sender::of_timers::srt_entry_timers_next_timer;
 use srt_sender::of_timers::srt_entry_timers_reset_exp;
 use srt_sender::of_timers::srt_entry_timers_update_rtt;
 use srt_sender::of_timers::srt_entry_timers_update_snd_period;
+use stored::Record;
+use stored::low;
 use timers::Timers;
 
 fn check(timers: Timers, which: u64, now: u64) -> TimersAnswer {

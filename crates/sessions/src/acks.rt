@@ -1,6 +1,4 @@
 // An ACK.
-use crate::record::Record;
-use crate::record::low;
 use crate::show;
 use ack::AckAction;
 use ack::AckRtt;
@@ -8,6 +6,8 @@ use ack::FullAck;
 use rtt::Rtt;
 use sender::Acknowledged;
 use sender::Sender;
+use stored::Record;
+use stored::low;
 
 fn full(there: bool, n: u32) -> FullAck {
     if there {

@@ -1,14 +1,13 @@
 // Answers stored sessions of the sender: 64 bytes in for each call, its answer out as docs/SCRIPTS.md writes it. The gate holds the answers
 // against crates/sessions/stdout, which the Rust wrote (compare/README.md, "The stored sessions").
-use record::Record;
-use record::low;
 use sender::Sender;
+use stored::Record;
+use stored::low;
 
 mod acks;
 mod messages;
 mod naks;
 mod questions;
-mod record;
 mod runs;
 mod show;
 mod starts;
@@ -72,7 +71,7 @@ fn step(desk: Desk, ring: &mut [u64], lost: &mut [u32], store: &mut [u8]) -> Tur
     if n < 64 {
         return Turn { more: false, desk };
     }
-    let after = call(desk, record::read(&bytes), ring, lost, store);
+    let after = call(desk, stored::read(&bytes), ring, lost, store);
     show::text(b"\n");
     Turn {
         more: true,

@@ -1,14 +1,18 @@
-// A message, of seeded bytes.
-use crate::record::Record;
-use crate::record::at_most;
-use crate::record::low;
+// A message: of up to 512 seeded bytes, or longer than any may be.
+ghost use mathlib.Core.Path.{_≡_};
+ghost use lib.ListN.{length};
 use crate::show;
 use sender::Answer;
 use sender::Messaged;
 use sender::NewPeriod;
 use sender::Sender;
+use stored::Record;
+use stored::at_most;
+use stored::low;
 
 const LENGTH_MOST: usize = 512;
+
+const TOO_LONG: u64 = 1_048_577;
 
 fn seeded(seed: u32, i: usize) -> u8 {
     let k = at_most(i as u64, LENGTH_MOST) as u64;
@@ -60,6 +64,25 @@ fn after(s: Sender, m: Messaged) -> Sender {
     }
 }
 
+fn send(
+    s: Sender,
+    r: Record,
+    payload: &[u8],
+    ring: &mut [u64],
+    lost: &mut [u32],
+    store: &mut [u8],
+) -> Sender {
+    let m = s.message(r.a, r.b, payload, ring, lost, store);
+    after(s, m)
+}
+
+// One byte more than a message may have. The `ensures` gives only the length, which lending the array as a slice needs.
+fn too_long() -> [u8; 1_048_577]
+    ensures { λ r. ⌜ 1_048_577 ≡ length r ⌝ }
+{
+    [0; 1_048_577]
+}
+
 pub(crate) fn call(
     s: Sender,
     r: Record,
@@ -67,9 +90,11 @@ pub(crate) fn call(
     lost: &mut [u32],
     store: &mut [u8],
 ) -> Sender {
+    if r.c == TOO_LONG {
+        return send(s, r, &too_long(), ring, lost, store);
+    }
     let mut bytes = [0u8; 512];
     fill(&mut bytes, low(r.d));
     let payload = first(&bytes, at_most(r.c, LENGTH_MOST));
-    let m = s.message(r.a, r.b, payload, ring, lost, store);
-    after(s, m)
+    send(s, r, payload, ring, lost, store)
 }

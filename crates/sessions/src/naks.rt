@@ -1,12 +1,12 @@
 // A loss report of up to ten words.
 ghost use Prim.Native.Nat.{_≤_};
-use crate::record::Record;
-use crate::record::at_most;
-use crate::record::high;
-use crate::record::low;
 use crate::show;
 use answers::Reported;
 use sender::Sender;
+use stored::Record;
+use stored::at_most;
+use stored::high;
+use stored::low;
 
 const WORDS_MOST: usize = 10;
 

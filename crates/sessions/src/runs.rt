@@ -1,11 +1,11 @@
 // A run.
 ghost use Prim.Native.Nat.{_≤_};
-use crate::record::Record;
-use crate::record::at_most;
-use crate::record::low;
 use crate::show;
 use sender::Sender;
 use sender_run::Ran;
+use stored::Record;
+use stored::at_most;
+use stored::low;
 
 const RECORDS_MOST: usize = 67;
 

@@ -1,8 +1,5 @@
 // A sender is made, and a kept number of it set.
 use crate::Desk;
-use crate::record::Record;
-use crate::record::high;
-use crate::record::low;
 use crate::show;
 use buffer::SendBuffer;
 use buffer::Settings;
@@ -10,6 +7,9 @@ use numbers::MsgNumber;
 use pacing::options::LiveBandwidthMode;
 use sender::Made;
 use sender::Sender;
+use stored::Record;
+use stored::high;
+use stored::low;
 
 fn settings(r: Record) -> Settings {
     Settings {

@@ -1,5 +1,8 @@
-// A stored call: eight numbers of eight bytes, each with its lowest byte first. The first is the operation, the others its arguments.
-ghost use Prim.Native.Nat.{_≤_};
+// Stored calls, which the programs replay: eight numbers of eight bytes, each with its lowest byte first. The first is the operation, the
+// others its arguments.
+ghost use mathlib.Core.Path.{_≡_};
+ghost use Prim.Native.Nat.{_+_, _*_, _≤_, _%_, _/_, _^_, min};
+ghost use Rattle.stored.specs.Stored.{half, number, call};
 
 pub struct Record {
     pub operation: u64,
@@ -13,13 +16,14 @@ pub struct Record {
 }
 
 fn wide(b: u8) -> u64
+    ensures { λ r. ⌜ r ≡ b ⌝ }
     ensures { λ r. ⌜ r ≤ 255 ⌝ }
 {
     b as u64
 }
 
-// Two bytes, four, eight.
 fn pair(low: u8, high: u8) -> u64
+    ensures { λ r. ⌜ r ≡ low + high * 2 ^ 8 ⌝ }
     ensures { λ r. ⌜ r ≤ 0xffff ⌝ }
 {
     wide(low) + wide(high) * 0x100
@@ -27,6 +31,7 @@ fn pair(low: u8, high: u8) -> u64
 
 fn half(bytes: &[u8; 64], at: usize) -> u64
     requires { ⌜ at ≤ 60 ⌝ }
+    ensures { λ r. ⌜ r ≡ half (now (bytes .entry)) at ⌝ }
     ensures { λ r. ⌜ r ≤ 0xffff_ffff ⌝ }
 {
     pair(bytes[at], bytes[at + 1]) + pair(bytes[at + 2], bytes[at + 3]) * 0x1_0000
@@ -34,11 +39,15 @@ fn half(bytes: &[u8; 64], at: usize) -> u64
 
 fn number(bytes: &[u8; 64], at: usize) -> u64
     requires { ⌜ at ≤ 56 ⌝ }
+    ensures { λ r. ⌜ r ≡ number (now (bytes .entry)) at ⌝ }
 {
     half(bytes, at) + half(bytes, at + 4) * 0x1_0000_0000
 }
 
-pub(crate) fn read(bytes: &[u8; 64]) -> Record {
+// The call that 64 bytes hold.
+pub fn read(bytes: &[u8; 64]) -> Record
+    ensures { λ r. ⌜ r ≡ call (now (bytes .entry)) ⌝ }
+{
     Record {
         operation: number(bytes, 0),
         a: number(bytes, 8),
@@ -51,19 +60,22 @@ pub(crate) fn read(bytes: &[u8; 64]) -> Record {
     }
 }
 
-// The low 32 bits of an argument.
-pub(crate) fn low(n: u64) -> u32 {
+// The low 32 bits of an argument, and the high ones.
+pub fn low(n: u64) -> u32
+    ensures { λ r. ⌜ r ≡ n % 2 ^ 32 ⌝ }
+{
     (n % 0x1_0000_0000) as u32
 }
 
-// The high 32 bits.
-pub(crate) fn high(n: u64) -> u32 {
+pub fn high(n: u64) -> u32
+    ensures { λ r. ⌜ r ≡ n / 2 ^ 32 ⌝ }
+{
     (n / 0x1_0000_0000) as u32
 }
 
 // An argument that counts places of a lent area, held at how many there are.
-pub(crate) fn at_most(n: u64, most: usize) -> usize
-    ensures { λ r. ⌜ r ≤ most ⌝ }
+pub fn at_most(n: u64, most: usize) -> usize
+    ensures { λ r. ⌜ r ≡ min n most ⌝ }
 {
     if n < most as u64 {
         return n as usize;
