@@ -1,14 +1,15 @@
+# make          this list
 # make test     the gate: layout, trace, a bounded comparison with the Rust, the library from C, every proof, every must-fail edit, every program
 # make demo     the hub's morning over the rollover of the stamp, on a simulated clock, and what judging lateness on the stamp leads to
 # make figures  builds what is proved and prints document 01's figures that it decides
 # make compare  the whole comparison with the Rust, some minutes
-# make bench    times the library and the Rust on the same calls, about two minutes, and writes docs/SPEED.md
+# make bench    times the library and the Rust on the same calls, some minutes, and writes docs/SPEED.md
 # make fuzz     fuzzes the library's entries for FUZZ_SECONDS (60); what is found is kept in fuzz/cases/
 # make lib      the static library that a host links: target/staticlib/libsrt_sender.a
 # make ctest    the library tried from C: tests/run
 # make example  builds and runs examples/picture.c
 # make install  the header, the library and srt_sender.pc below PREFIX (/usr/local), below DESTDIR where that is given
-.PHONY: test demo figures compare bench fuzz lib ctest example install
+.PHONY: help test demo figures compare bench fuzz lib ctest example install
 
 CC = gcc
 CFLAGS = -std=c99 -O1 -g -Wall -Wextra -pedantic
@@ -16,6 +17,10 @@ PREFIX = /usr/local
 DESTDIR =
 VERSION = 0.1.0
 LIB = target/staticlib/libsrt_sender.a
+RT = command -v rt > /dev/null || { echo "make: rt, the Rattle kit, is not at hand: it proves the crates and builds the library" >&2; exit 1; }
+
+help:
+	@sed -n 's/^# \(make .*\)/\1/p' Makefile
 
 test:
 	.ci/run
@@ -30,6 +35,7 @@ target/demo/story: $(wildcard demo/*.c) demo/story.h include/srt_sender.h $(LIB)
 	$(CC) -std=c99 -O2 -Wall -Wextra -pedantic -Wconversion -Iinclude -o $@ $(filter %.c %.a,$^)
 
 figures:
+	@$(RT)
 	rt check figures
 	target/bin/figures
 
@@ -43,10 +49,12 @@ fuzz: $(LIB)
 	fuzz/run
 
 lib:
+	@$(RT)
 	rt staticlib srt_sender
 
 # Where there is no library yet it is made; `make lib` makes it anew.
 $(LIB):
+	@$(RT)
 	rt staticlib srt_sender
 
 ctest: $(LIB)

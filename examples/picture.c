@@ -153,7 +153,8 @@ static void acknowledge(struct host *h, struct receiver *r)
     printf("%s ACK of %08x; arrived: %u\n", full ? "full" : "light", (unsigned)number, (unsigned)acked.received);
 }
 
-/* Sleeps until something is due, and does it. The answer is whether all is sent and gone from the buffer. */
+/* Sleeps until something is due, and does it; the 0 given to next_timer: no packet waits for an ACK of this host's. The
+ * answer is whether all is sent and gone from the buffer, or the peer is. */
 static bool wake(struct host *h, struct receiver *r, const uint8_t *picture)
 {
     static const uint64_t times[2] = {0, 100000000}; /* when the messages come, in nanoseconds */
@@ -162,15 +163,13 @@ static bool wake(struct host *h, struct receiver *r, const uint8_t *picture)
     uint64_t next;
     uint32_t periods, idle;
     EXPECT(srt_sender_reports(&h->sender, &h->lent, &told, NULL));
-    EXPECT(srt_timers_next_timer(&h->timers, h->now * 1000, told.has_packets_to_send, message, h->sender.books.sent,
-                                 &next));
+    EXPECT(srt_timers_next_timer(&h->timers, h->now * 1000, told.has_packets_to_send, message, 0, &next));
     h->now = (next + 999) / 1000; /* a real host sleeps, and reads its clock */
     EXPECT(srt_timers_check_snd(&h->timers, h->now * 1000, &periods));
     if (periods > 0)
         run(h, periods, r);
     report(h, r);
     acknowledge(h, r);
-    EXPECT(srt_timers_check_full_ack(&h->timers, h->now * 1000, NULL));
     EXPECT(srt_timers_check_nak(&h->timers, h->now * 1000, NULL));
     EXPECT(srt_timers_check_peer_idle_timeout(&h->timers, h->now * 1000, &idle));
     if (message != NULL && *message <= h->now * 1000 && h->messages == 0)

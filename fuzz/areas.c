@@ -5,13 +5,17 @@
 #include <string.h>
 #include <sys/mman.h>
 
-enum { PAGE = 4096, STRIP = 32 };
+#include "pages.h"
+
+enum { STRIP = 32 };
 
 /* The known bytes of a strip. */
 static const char marks[] = "beside an area nothing changes..";
 
-void fail(const char *what)
+void must(bool holds, const char *what)
 {
+    if (holds)
+        return;
     fprintf(stderr, "fuzz: %s\n", what);
     abort();
 }
@@ -19,22 +23,17 @@ void fail(const char *what)
 void area_map(struct area *a, size_t most, size_t width)
 {
     a->width = width;
-    a->room = (most * width + STRIP + PAGE - 1) / PAGE * PAGE;
-    uint8_t *pages = mmap(NULL, a->room + 2 * PAGE, PROT_NONE, MAP_PRIVATE | MAP_ANONYMOUS, -1, 0);
-    if (pages == MAP_FAILED || mprotect(pages + PAGE, a->room, PROT_READ | PROT_WRITE) != 0)
-        fail("no memory for an area");
-    a->base = pages + PAGE;
+    a->base = pages_open(most * width + STRIP, &a->room);
+    must(a->base != NULL, "no memory for an area");
     a->kept = calloc(1, a->room);
-    if (a->kept == NULL)
-        fail("no memory for an area");
+    must(a->kept != NULL, "no memory for an area");
 }
 
 void area_fix(struct area *a, uint8_t (*byte_at)(size_t))
 {
     for (size_t i = 0; i < a->room; i++)
         a->base[i] = byte_at(i);
-    if (mprotect(a->base, a->room, PROT_READ) != 0)
-        fail("an area can't be fixed");
+    must(mprotect(a->base, a->room, PROT_READ) == 0, "an area can't be fixed");
 }
 
 size_t area_most(const struct area *a)
@@ -57,16 +56,8 @@ void area_lend(struct area *a, size_t len, bool front)
     memcpy(strip(a), marks, STRIP);
 }
 
-void area_stays(const struct area *a, size_t from)
+void area_stays(const struct area *a)
 {
-    if (memcmp(strip(a), marks, STRIP) != 0)
-        fail("a byte beside a lent area was written");
-    const size_t start = from < a->len ? from * a->width : a->len * a->width;
-    if (memcmp(a->at + start, a->kept + start, a->len * a->width - start) != 0)
-        fail("a byte that must stay was changed");
-}
-
-void area_keep(struct area *a)
-{
-    memcpy(a->kept, a->at, a->len * a->width);
+    must(memcmp(strip(a), marks, STRIP) == 0, "a byte beside a lent area was written");
+    must(memcmp(a->at, a->kept, a->len * a->width) == 0, "a lent byte is another than document 01 leaves");
 }

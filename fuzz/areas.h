@@ -1,5 +1,5 @@
-/* Lent areas between two pages that can't be touched. The archive isn't compiled with ASan, which would notice what the
- * library reads and writes on the heap only where that goes through memmove; the processor notices all of it. */
+/* Lent areas between two pages that can't be touched (tests/pages.h): the archive isn't compiled with ASan, so what it
+ * reads and writes out of range is for the processor to notice. */
 #ifndef AREAS_H
 #define AREAS_H
 
@@ -13,13 +13,13 @@ struct area {
     uint8_t *base;  /* the pages it is lent in */
     size_t room;    /* their bytes */
     size_t width;
-    uint8_t *kept;  /* as many bytes again */
+    uint8_t *kept;  /* as many bytes again: what a call finds, and after it what it must have left */
     uint8_t *at;    /* where it is lent now */
     size_t len;     /* elements lent now */
 };
 
-/* Says what is wrong, and ends the program. */
-_Noreturn void fail(const char *what);
+/* Where it doesn't hold, says what is wrong and ends the program. */
+void must(bool holds, const char *what);
 
 void area_map(struct area *a, size_t most, size_t width);
 
@@ -32,10 +32,7 @@ size_t area_most(const struct area *a);
 /* Lends |len| of the kept elements, at the front of the pages or at their end. */
 void area_lend(struct area *a, size_t len, bool front);
 
-/* Nothing beside the lent elements was written, and nothing in them from element |from| on. */
-void area_stays(const struct area *a, size_t from);
-
-/* Keeps what the call left. */
-void area_keep(struct area *a);
+/* Nothing beside the lent elements was written, and they are as they are kept. */
+void area_stays(const struct area *a);
 
 #endif

@@ -4,12 +4,12 @@
 
 #if BEND == 1
 struct srt_run_answer __real_srt_entry_run(struct srt_sender given, uint64_t now, uint32_t budget, bool draining,
-                                           uint64_t *ring, size_t ring_len, uint32_t *lost, size_t lost_len,
+                                           uint64_t *ring, size_t ring_len, const uint32_t *lost, size_t lost_len,
                                            uint8_t *out, size_t out_len);
 
 /* A run that drops and then resends by loss writes one byte past its list. */
 struct srt_run_answer __wrap_srt_entry_run(struct srt_sender given, uint64_t now, uint32_t budget, bool draining,
-                                           uint64_t *ring, size_t ring_len, uint32_t *lost, size_t lost_len,
+                                           uint64_t *ring, size_t ring_len, const uint32_t *lost, size_t lost_len,
                                            uint8_t *out, size_t out_len)
 {
     const struct srt_run_answer r =
@@ -37,12 +37,12 @@ struct srt_nak_answer __wrap_srt_entry_nak(struct srt_sender given, const uint32
 #else
 struct srt_ack_answer __real_srt_entry_ack(struct srt_sender given, uint32_t number, bool full, uint32_t full_number,
                                            bool measured, struct srt_rtt rtt, const uint64_t *ring, size_t ring_len,
-                                           uint32_t *lost, size_t lost_len);
+                                           const uint32_t *lost, size_t lost_len);
 
 /* An ACK that recovers two numbers and leaves one on the list leaves a message number over its end. */
 struct srt_ack_answer __wrap_srt_entry_ack(struct srt_sender given, uint32_t number, bool full, uint32_t full_number,
                                            bool measured, struct srt_rtt rtt, const uint64_t *ring, size_t ring_len,
-                                           uint32_t *lost, size_t lost_len)
+                                           const uint32_t *lost, size_t lost_len)
 {
     struct srt_ack_answer r =
         __real_srt_entry_ack(given, number, full, full_number, measured, rtt, ring, ring_len, lost, lost_len);

@@ -53,8 +53,7 @@ static void read_blocks(const char *name)
     unsigned long start;
     while (file != NULL && blocks < BLOCKS_MOST && fscanf(file, "%lx", &start) == 1)
         starts[blocks++] = start;
-    if (file == NULL || blocks == 0 || !feof(file))
-        fail("the list of blocks can't be read");
+    must(file != NULL && blocks > 0 && feof(file), "the list of blocks can't be read");
     fclose(file);
     qsort(starts, blocks, sizeof starts[0], compare);
 }
@@ -64,8 +63,7 @@ static void set_breakpoints(void)
     for (size_t i = 0; i < blocks; i++) {
         uint8_t *at = (uint8_t *)starts[i];
         void *page = (void *)(starts[i] / PAGE * PAGE);
-        if (mprotect(page, PAGE, PROT_READ | PROT_WRITE | PROT_EXEC) != 0)
-            fail("the code can't be written");
+        must(mprotect(page, PAGE, PROT_READ | PROT_WRITE | PROT_EXEC) == 0, "the code can't be written");
         bytes[i] = *at;
         *at = BREAKPOINT;
     }

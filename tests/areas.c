@@ -1,34 +1,29 @@
-/* areas.c: lent areas between pages that can't be touched, so that one element too far is a fault. */
+/* areas.c: the lent areas, each between pages that fault, and what is said where one of them is touched. */
 #define _DEFAULT_SOURCE
 #include <signal.h>
-#include <sys/mman.h>
 #include <unistd.h>
 #include "outside.h"
+#include "pages.h"
 
 #define AREAS_MOST 16
 static struct area opened[AREAS_MOST];
 static size_t opened_len, page;
 
-/* Opens room for at least |room| bytes, in whole pages with a page that faults on either side. */
+/* Opens room for at least |room| bytes. */
 void area_open(struct area *a, const char *name, size_t room)
 {
-    size_t pages;
-    uint8_t *at;
-    page = (size_t)sysconf(_SC_PAGESIZE);
-    pages = (room + page - 1) / page * page;
-    at = mmap(NULL, pages + 2 * page, PROT_NONE, MAP_PRIVATE | MAP_ANONYMOUS, -1, 0);
-    if (at == MAP_FAILED || mprotect(at + page, pages, PROT_READ | PROT_WRITE) != 0 || opened_len == AREAS_MOST) {
+    page = page_bytes();
+    a->name = name;
+    a->begin = pages_open(room, &a->room);
+    if (a->begin == NULL || opened_len == AREAS_MOST) {
         fprintf(stderr, "outside: no memory for %s\n", name);
         exit(1);
     }
-    a->name = name;
-    a->begin = at + page;
-    a->room = pages;
     opened[opened_len++] = *a;
 }
 
 /* An area of |bytes| that ends right before the upper page, or begins right after the lower one. */
-void *area_at(const struct area *a, size_t bytes, enum side side)
+void *area_at(const struct area *a, size_t bytes)
 {
     if (bytes > a->room) {
         fprintf(stderr, "outside: %s has no room for %zu bytes\n", a->name, bytes);

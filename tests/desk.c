@@ -1,10 +1,13 @@
-/* desk.c: a sender with all that it is lent, each area between pages that fault; and the fields of a sender. */
+/* desk.c: a sender with all that it is lent, each area between pages that fault. */
 #include "outside.h"
 
-static struct area ring, lost, store, records, runs, payload, words, header;
+struct desk desk;
+enum side side;
+const struct srt_settings small = {15, 4, 4, 8, 120000, 0, 0x11223344};
+static struct area ring, lost, store, records, runs, payload, loss_words, header;
 
 /* Room for the largest settings. */
-void desks_open(void)
+void desk_open(void)
 {
     area_open(&ring, "the ring", SRT_RING_WORDS(SRT_BUFFER_MOST) * 8 + 64);
     area_open(&lost, "the loss list", SRT_LOST_WORDS(SRT_BUFFER_MOST) * 4 + 64);
@@ -12,7 +15,7 @@ void desks_open(void)
     area_open(&records, "the records", SRT_RECORDS_BYTES(SRT_BUFFER_MOST, SRT_BUFFER_MOST) + 64);
     area_open(&runs, "the runs", SRT_RUNS_WORDS(SRT_WORDS_MOST) * 4 + 64);
     area_open(&payload, "the payload", SRT_MESSAGE_MOST + 64);
-    area_open(&words, "the loss words", (SRT_WORDS_MOST + 16) * 4);
+    area_open(&loss_words, "the loss words", (SRT_WORDS_MOST + 16) * 4);
     area_open(&header, "the header", SRT_HEADER_BYTES);
 }
 
@@ -25,67 +28,69 @@ struct lengths lengths_for(const struct srt_settings *c, uint32_t budget, size_t
 }
 
 /* Lends so many elements; what they hold is as it was at that place. */
-void desk_set(struct desk *d, struct lengths n, enum side side)
+void desk_set(struct lengths n)
 {
-    d->lent.ring = area_at(&ring, n.ring * 8, side);
-    d->lent.ring_len = n.ring;
-    d->lent.lost = area_at(&lost, n.lost * 4, side);
-    d->lent.lost_len = n.lost;
-    d->lent.store = area_at(&store, n.store, side);
-    d->lent.store_len = n.store;
-    d->records = area_at(&records, n.records, side);
-    d->records_len = n.records;
-    d->runs = area_at(&runs, n.runs * 4, side);
-    d->runs_len = n.runs;
+    desk.lent.ring = area_at(&ring, n.ring * 8);
+    desk.lent.ring_len = n.ring;
+    desk.lent.lost = area_at(&lost, n.lost * 4);
+    desk.lent.lost_len = n.lost;
+    desk.lent.store = area_at(&store, n.store);
+    desk.lent.store_len = n.store;
+    desk.records = area_at(&records, n.records);
+    desk.records_len = n.records;
+    desk.runs = area_at(&runs, n.runs * 4);
+    desk.runs_len = n.runs;
 }
 
-uint8_t *payload_at(size_t len, enum side side)
+uint8_t *payload_at(size_t len)
 {
-    uint8_t *at = area_at(&payload, len, side);
+    uint8_t *at = area_at(&payload, len);
     for (size_t i = 0; i < len; i++)
         at[i] = (uint8_t)(i * 7 + i / 251 + len);
     return at;
 }
 
-uint32_t *words_at(size_t len, enum side side)
+uint32_t *words_at(size_t len)
 {
-    return area_at(&words, len * 4, side);
+    return area_at(&loss_words, len * 4);
 }
 
-uint8_t *header_at(enum side side)
+uint8_t *header_at(void)
 {
-    return area_at(&header, SRT_HEADER_BYTES, side);
+    return area_at(&header, SRT_HEADER_BYTES);
 }
 
-#define FIELD(m) {#m, offsetof(struct srt_sender, m), sizeof(((struct srt_sender *)0)->m)}
-const struct field sender_fields[] = {
-    FIELD(settings.first), FIELD(settings.size), FIELD(settings.buffer), FIELD(settings.flow), FIELD(settings.latency),
-    FIELD(settings.overhead), FIELD(settings.socket), FIELD(books.ring.cap), FIELD(books.ring.slot),
-    FIELD(books.ring.len), FIELD(books.front), FIELD(books.sent), FIELD(books.lost), FIELD(books.bytes),
-    FIELD(books.rtt.mean), FIELD(books.rtt.variance), FIELD(books.expected), FIELD(books.held.held),
-    FIELD(books.held.number), FIELD(books.held.slot), FIELD(books.held.len), FIELD(books.message), FIELD(pacing.mode),
-    FIELD(pacing.begun), FIELD(pacing.rate), FIELD(pacing.overhead), FIELD(pacing.next), FIELD(pacing.packets.count),
-    FIELD(pacing.packets.mean), FIELD(pacing.packets.variance), FIELD(pacing.bytes.count), FIELD(pacing.bytes.mean),
-    FIELD(pacing.bytes.variance),
-};
-const size_t sender_fields_len = sizeof sender_fields / sizeof sender_fields[0];
+/* ---- What the cases share */
 
-/* Every byte of the struct is a field's, but the padding after settings and after message, where size_t has 8 bytes. */
-bool fields_complete(void)
+void fresh(const struct srt_settings *c, size_t items)
 {
-    size_t bytes = 0;
-    for (size_t i = 0; i < sender_fields_len; i++)
-        bytes += sender_fields[i].bytes;
-    return sizeof(size_t) != 8 || bytes + 8 == sizeof(struct srt_sender);
+    desk_set(lengths_for(c, UINT32_MAX, items));
+    memset(desk.lent.ring, 0xa5, desk.lent.ring_len * 8);
+    memset(desk.lent.lost, 0xa5, desk.lent.lost_len * 4);
+    check(do_new(c, SRT_MODE_UNLIMITED, 0, 0) == 0, "a fresh sender is refused");
 }
 
-/* Whether two senders agree in every field. */
-bool same_sender(const struct srt_sender *a, const struct srt_sender *b)
+void set_scene(const char *name)
 {
-    for (size_t i = 0; i < sender_fields_len; i++) {
-        const struct field *f = &sender_fields[i];
-        if (memcmp((const uint8_t *)a + f->at, (const uint8_t *)b + f->at, f->bytes) != 0)
-            return false;
-    }
-    return true;
+    snprintf(scene, sizeof scene, "%s; %s", name, side == AT_END ? "areas at an end" : "areas at a beginning");
+}
+
+struct srt_action action_at(size_t k)
+{
+    return srt_action_at(desk.records, k);
+}
+
+int nak_one(uint32_t word)
+{
+    uint32_t *words = words_at(1);
+    words[0] = word;
+    return do_nak(words, 1, NULL);
+}
+
+int nak_two(uint32_t first, uint32_t second)
+{
+    uint32_t *words = words_at(2);
+    words[0] = first;
+    words[1] = second;
+    return do_nak(words, 2, NULL);
 }

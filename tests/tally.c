@@ -2,7 +2,7 @@
 #include "outside.h"
 
 char scene[200] = "start";
-long failures;
+static long failures;
 
 static const struct {
     const char *name;

@@ -5,7 +5,7 @@ use std::{
     time::{Duration, Instant},
 };
 
-use calls::{Acked, Loss, LossRun, Pushed, Ran, Record, Reports, Settings};
+use calls::{Acked, LossRun, Pushed, Ran, Record, Reports, Settings};
 
 use crate::scenario::Call;
 
@@ -212,12 +212,7 @@ impl Library {
     pub fn runs(&self, count: usize) -> Vec<LossRun> {
         // Sound: the report wrote so many runs of three words.
         let words = unsafe { std::slice::from_raw_parts(lent_runs(self.0), count * 3) };
-        let run = |w: &[u32]| LossRun {
-            loss: [Loss::Added, Loss::Ignored, Loss::Dropped][w[0] as usize - 1],
-            first: w[1],
-            end: w[2],
-        };
-        words.chunks(3).map(run).collect()
+        words.chunks(3).map(LossRun::read).collect()
     }
 
     /// From the mark on, the calls one after another, each with the check beside it.

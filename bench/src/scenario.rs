@@ -3,7 +3,7 @@
 
 use std::fmt::{self, Display, Formatter, Write};
 
-use calls::{Ack, Mode, Rtt, Settings};
+use calls::{seeded, Ack, Mode, Rtt, Settings};
 
 /// Packets buffered.
 pub const SIZES: [u32; 3] = [32, 512, 8_192];
@@ -72,10 +72,8 @@ pub enum Call {
 }
 
 impl Call {
-    /// The bytes that docs/SCRIPTS.md gives to a seed.
     pub fn payload(seed: u32) -> Vec<u8> {
-        let byte = |i: u64| (u64::from(seed) + 131 * i + i / 251) as u8;
-        (0..u64::from(PAYLOAD)).map(byte).collect()
+        seeded(PAYLOAD, seed)
     }
 }
 
@@ -84,13 +82,7 @@ impl Display for Call {
     fn fmt(&self, f: &mut Formatter<'_>) -> fmt::Result {
         match self {
             Call::Message { time, seed } => write!(f, "message {time} {time} {PAYLOAD} {seed}"),
-            Call::Ack(ack) => {
-                write!(f, "ack {}", ack.number)?;
-                if let Some(rtt) = ack.rtt {
-                    write!(f, " rtt {} {}", rtt.mean, rtt.variance)?;
-                }
-                ack.full.map_or(Ok(()), |full| write!(f, " full {full}"))
-            }
+            Call::Ack(ack) => ack.fmt(f),
             Call::Nak(words) => {
                 f.write_str("nak")?;
                 words.iter().try_for_each(|word| write!(f, " {word}"))

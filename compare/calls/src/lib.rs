@@ -5,12 +5,16 @@
 //! Times of the sender are microseconds since start, those of timers are
 //! nanoseconds. Sequence and message numbers are the wrapped ones of the wire.
 
+mod bends;
 mod leaves;
 mod refusal;
+mod script;
 mod sender;
 mod state;
 
+pub use bends::*;
 pub use leaves::*;
 pub use refusal::*;
+pub use script::*;
 pub use sender::*;
 pub use state::*;

@@ -79,6 +79,22 @@ pub struct LossRun {
     pub end: u32,
 }
 
+impl LossRun {
+    /// A run from its three words in a lent list.
+    pub fn read(words: &[u32]) -> LossRun {
+        LossRun {
+            loss: match words[0] {
+                1 => Loss::Added,
+                2 => Loss::Ignored,
+                3 => Loss::Dropped,
+                other => panic!("there is no kind of loss {other}"),
+            },
+            first: words[1],
+            end: words[2],
+        }
+    }
+}
+
 /// One action record of document 01.
 pub type Record = [u8; 24];
 

@@ -85,6 +85,20 @@ pub struct TimersState {
     pub exp_count: u32,
 }
 
+impl TimersState {
+    /// The six timers.
+    pub fn all(&self) -> [TimerState; 6] {
+        [
+            self.snd,
+            self.full_ack,
+            self.nak,
+            self.exp,
+            self.peer_idle,
+            self.statistics,
+        ]
+    }
+}
+
 /// The sum over a payload that `PacketState` holds (FNV-1a).
 pub fn payload_sum(payload: &[u8]) -> u64 {
     payload.iter().fold(0xcbf2_9ce4_8422_2325, |sum, byte| {

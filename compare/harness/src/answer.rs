@@ -62,43 +62,13 @@ impl Display for Answer {
             Answer::Done => write!(f, "done"),
             Answer::Nothing => write!(f, "nothing there"),
             Answer::Refused(refusal) => refused(f, refusal),
-            Answer::Pushed(a) => write!(
-                f,
-                "made {} removed {} bytes {} period {}",
-                a.made,
-                a.removed,
-                a.removed_bytes,
-                Maybe(a.period)
-            ),
-            Answer::Acked(a) => {
-                let full = Maybe(a.full);
-                write!(
-                    f,
-                    "received {} recovered {} full {full}",
-                    a.received, a.recovered
-                )
-            }
+            Answer::Pushed(pushed) => message(f, pushed),
+            Answer::Acked(acked) => ack(f, acked),
             Answer::Runs(runs) => loss_runs(f, runs),
-            Answer::Ran(ran) => {
-                write!(f, "records {} left {}", ran.records.len(), ran.left)?;
-                let mut records = ran.records.iter();
-                records.try_for_each(|record| write!(f, "\n  {}", grouped(record)))
-            }
-            Answer::Reports(r) => write!(
-                f,
-                "flushed {} to_send {} packets {} bytes {} time {}",
-                u8::from(r.flushed),
-                u8::from(r.has_packets_to_send),
-                r.packets,
-                r.bytes,
-                r.time
-            ),
+            Answer::Ran(ran) => records(f, ran),
+            Answer::Reports(told) => reports(f, told),
             Answer::Payload(bytes) => write!(f, "payload {} {}", bytes.len(), hex(bytes)),
-            Answer::Sent(sent) => {
-                write!(f, "sent {}", sent.len())?;
-                let mut all = sent.iter();
-                all.try_for_each(|s| write!(f, "\n  {} : {}", grouped(&s.header), hex(&s.payload)))
-            }
+            Answer::Sent(sent) => packets(f, sent),
             Answer::State(state) => sender_state(f, state),
             Answer::Fired(periods) => write!(f, "fired {}", Maybe(*periods)),
             Answer::At(at) => write!(f, "at {at}"),
@@ -114,6 +84,45 @@ impl Display for Answer {
             Answer::Header(bytes) => write!(f, "header {}", grouped(bytes)),
         }
     }
+}
+
+fn message(f: &mut Formatter, a: &Pushed) -> fmt::Result {
+    let period = Maybe(a.period);
+    write!(
+        f,
+        "made {} removed {} bytes {} period {period}",
+        a.made, a.removed, a.removed_bytes
+    )
+}
+
+fn ack(f: &mut Formatter, a: &Acked) -> fmt::Result {
+    let full = Maybe(a.full);
+    write!(
+        f,
+        "received {} recovered {} full {full}",
+        a.received, a.recovered
+    )
+}
+
+fn records(f: &mut Formatter, ran: &Ran) -> fmt::Result {
+    write!(f, "records {} left {}", ran.records.len(), ran.left)?;
+    let mut all = ran.records.iter();
+    all.try_for_each(|record| write!(f, "\n  {}", grouped(record)))
+}
+
+fn reports(f: &mut Formatter, r: &Reports) -> fmt::Result {
+    let (flushed, to_send) = (u8::from(r.flushed), u8::from(r.has_packets_to_send));
+    write!(
+        f,
+        "flushed {flushed} to_send {to_send} packets {} bytes {} time {}",
+        r.packets, r.bytes, r.time
+    )
+}
+
+fn packets(f: &mut Formatter, sent: &[Sent]) -> fmt::Result {
+    write!(f, "sent {}", sent.len())?;
+    let mut all = sent.iter();
+    all.try_for_each(|s| write!(f, "\n  {} : {}", grouped(&s.header), hex(&s.payload)))
 }
 
 fn refused(f: &mut Formatter, refusal: &Refusal) -> fmt::Result {

@@ -1,12 +1,13 @@
 //! Bends one rule of the model after another, and one answer of the proved
 //! library after another, and sees that the generator's scripts notice.
 
-use model::{Area, Bend, BENDS};
+use calls::Area;
+use model::{Bend, BENDS};
 
 use crate::{
     generate::Generator,
     generate_leaves::LeafGenerator,
-    leaf_modes, leaf_trial, modes,
+    leaf_trial, modes,
     party::{self, Party},
     reach::Reached,
     trial::{play, Tally},
@@ -88,13 +89,10 @@ fn bent_rules() -> Vec<Bent> {
 
 /// The bent answers of the proved library.
 fn bent_answers() -> Vec<Bent> {
-    let mut bends = Vec::new();
-    for (bend, place, text) in rattle::BENDS {
-        if let Some(area) = leaf_modes::area(place) {
-            bends.push((format!("{bend:?}"), area, *text, party::rattle(*bend)));
-        }
-    }
-    bends
+    let bent = |(bend, area, text): &(rattle::Bend, Area, &'static str)| {
+        (format!("{bend:?}"), *area, *text, party::rattle(*bend))
+    };
+    rattle::BENDS.iter().map(bent).collect()
 }
 
 /// How many bent rules pass unnoticed.

@@ -2,7 +2,8 @@
 
 use calls::{Settings, State};
 
-fn distance(a: u32, b: u32) -> u64 {
+/// The distance from a to b.
+pub fn distance(a: u32, b: u32) -> u64 {
     u64::from(b.wrapping_sub(a) % (1 << 31))
 }
 

@@ -2,7 +2,7 @@
 
 use std::fmt::{self, Display, Formatter};
 
-use calls::{Ack, HeaderFields, Mode, Rtt, Settings, Wake, Which};
+use calls::{seeded, Ack, HeaderFields, Mode, Rtt, Settings, Wake, Which};
 
 /// A payload, written out or by length and seed.
 #[derive(Clone, Debug, PartialEq, Eq)]
@@ -19,13 +19,9 @@ impl Payload {
         }
     }
 
-    /// Byte i of a seeded payload is seed + 131 × i + i / 251 modulo 256.
     pub fn bytes(&self) -> Vec<u8> {
         match self {
-            Payload::Seeded { length, seed } => {
-                let byte = |i: u64| (u64::from(*seed) + 131 * i + i / 251) as u8;
-                (0..u64::from(*length)).map(byte).collect()
-            }
+            Payload::Seeded { length, seed } => seeded(*length, *seed),
             Payload::Given(bytes) => bytes.clone(),
         }
     }
@@ -141,33 +137,34 @@ fn room(f: &mut Formatter, room: &Option<u64>) -> fmt::Result {
     room.map_or(Ok(()), |room| write!(f, " room {room}"))
 }
 
+impl Display for Payload {
+    fn fmt(&self, f: &mut Formatter) -> fmt::Result {
+        match self {
+            Payload::Seeded { length, seed } => write!(f, "{length} {seed}"),
+            Payload::Given(bytes) => write!(f, "hex {}", hex(bytes)),
+        }
+    }
+}
+
+/// A loss word: hexadecimal where it opens a range.
+fn loss_word(f: &mut Formatter, word: u32) -> fmt::Result {
+    if word < 1 << 31 {
+        return write!(f, " {word}");
+    }
+    write!(f, " {word:#010x}")
+}
+
 impl Display for SenderCall {
     fn fmt(&self, f: &mut Formatter) -> fmt::Result {
         match self {
             SenderCall::PresetMessage(number) => write!(f, "preset message {number}"),
             SenderCall::Message { time, now, payload } => {
-                write!(f, "message {time} {now} ")?;
-                match payload {
-                    Payload::Seeded { length, seed } => write!(f, "{length} {seed}"),
-                    Payload::Given(bytes) => write!(f, "hex {}", hex(bytes)),
-                }
+                write!(f, "message {time} {now} {payload}")
             }
-            SenderCall::Ack(ack) => {
-                write!(f, "ack {}", ack.number)?;
-                if let Some(rtt) = ack.rtt {
-                    write!(f, " rtt {} {}", rtt.mean, rtt.variance)?;
-                }
-                ack.full.map_or(Ok(()), |full| write!(f, " full {full}"))
-            }
+            SenderCall::Ack(ack) => ack.fmt(f),
             SenderCall::Nak { words, room: r } => {
                 write!(f, "nak")?;
-                for word in words {
-                    if *word < 1 << 31 {
-                        write!(f, " {word}")?;
-                    } else {
-                        write!(f, " {word:#010x}")?;
-                    }
-                }
+                words.iter().try_for_each(|word| loss_word(f, *word))?;
                 room(f, r)
             }
             SenderCall::Run {
@@ -195,6 +192,25 @@ fn check_name(which: Which) -> &'static str {
     named.map_or("", |(name, _)| name)
 }
 
+fn wake_call(f: &mut Formatter, wake: &Wake) -> fmt::Result {
+    let message = wake.next_message.map_or("-".to_string(), |m| m.to_string());
+    let waiting = u8::from(wake.has_packets_to_send);
+    write!(
+        f,
+        "timers wake {} {waiting} {message} {}",
+        wake.now, wake.unacked
+    )
+}
+
+fn header_call(f: &mut Formatter, h: &HeaderFields) -> fmt::Result {
+    let again = u8::from(h.retransmitted);
+    write!(
+        f,
+        "header {} {} {again} {} {} {:#010x}",
+        h.number, h.place, h.message, h.stamp, h.id
+    )
+}
+
 impl Display for LeafCall {
     fn fmt(&self, f: &mut Formatter) -> fmt::Result {
         match self {
@@ -212,15 +228,7 @@ impl Display for LeafCall {
             LeafCall::TimersCheck(which, now) => {
                 write!(f, "timers check {} {now}", check_name(*which))
             }
-            LeafCall::TimersWake(wake) => {
-                let message = wake.next_message.map_or("-".to_string(), |m| m.to_string());
-                let waiting = u8::from(wake.has_packets_to_send);
-                write!(
-                    f,
-                    "timers wake {} {waiting} {message} {}",
-                    wake.now, wake.unacked
-                )
-            }
+            LeafCall::TimersWake(wake) => wake_call(f, wake),
             LeafCall::TimersSnd(period) => write!(f, "timers snd {period}"),
             LeafCall::TimersRtt(rtt) => write!(f, "timers rtt {} {}", rtt.mean, rtt.variance),
             LeafCall::TimersResetExp(now) => write!(f, "timers reset {now}"),
@@ -234,21 +242,7 @@ impl Display for LeafCall {
             } => write!(f, "pacing input {now} {packets} {bytes}"),
             LeafCall::PacingState => write!(f, "pacing state"),
             LeafCall::Split { size, length } => write!(f, "split {size} {length}"),
-            LeafCall::Header(h) => {
-                let again = u8::from(h.retransmitted);
-                let HeaderFields {
-                    number,
-                    place,
-                    message,
-                    stamp,
-                    id,
-                    ..
-                } = h;
-                write!(
-                    f,
-                    "header {number} {place} {again} {message} {stamp} {id:#010x}"
-                )
-            }
+            LeafCall::Header(fields) => header_call(f, fields),
         }
     }
 }

@@ -39,27 +39,33 @@ fn starts() -> [Settings; 3] {
     [small, single, roomy]
 }
 
-fn alphabet(settings: &Settings) -> Vec<SenderCall> {
-    let number = |ahead: u32| (settings.first + ahead) % (1 << 31);
-    let message = |time: u64, length: u32| SenderCall::Message {
+fn message(time: u64, length: u32) -> SenderCall {
+    SenderCall::Message {
         time,
         now: time,
         payload: Payload::Seeded { length, seed: 3 },
-    };
-    let ack = |ahead: u32, full: Option<u32>, rtt: Option<Rtt>| {
-        SenderCall::Ack(Ack {
-            number: number(ahead),
-            full,
-            rtt,
-        })
-    };
-    let run = |now: u64, budget: u32, draining: bool| SenderCall::Run {
+    }
+}
+
+fn ack(number: u32, full: Option<u32>, rtt: Option<Rtt>) -> SenderCall {
+    SenderCall::Ack(Ack { number, full, rtt })
+}
+
+fn nak(words: Vec<u32>) -> SenderCall {
+    SenderCall::Nak { words, room: None }
+}
+
+fn run(now: u64, budget: u32, draining: bool) -> SenderCall {
+    SenderCall::Run {
         now,
         budget,
         draining,
         room: None,
-    };
-    let nak = |words: Vec<u32>| SenderCall::Nak { words, room: None };
+    }
+}
+
+fn alphabet(settings: &Settings) -> Vec<SenderCall> {
+    let number = |ahead: u32| (settings.first + ahead) % (1 << 31);
     let quick = Rtt {
         mean: 10,
         variance: 1,
@@ -70,10 +76,10 @@ fn alphabet(settings: &Settings) -> Vec<SenderCall> {
         message(1_000, 4),
         message(200_000, 7),
         message(1_200_000, 2),
-        ack(0, None, Some(quick)),
-        ack(1, Some(1), None),
-        ack(2, Some(0), Some(quick)),
-        ack(3, None, None),
+        ack(number(0), None, Some(quick)),
+        ack(number(1), Some(1), None),
+        ack(number(2), Some(0), Some(quick)),
+        ack(number(3), None, None),
         nak(vec![number(0)]),
         nak(vec![range, number(2)]),
         nak(vec![number(1), number(0)]),

@@ -1,7 +1,6 @@
 //! Random scripts for the leaves, near the limits of their rules.
 
-use calls::{HeaderFields, Rtt, TimerState, Wake};
-use model::Area;
+use calls::{Area, HeaderFields, Rtt, TimerState, Wake};
 
 use crate::{
     call::{LeafCall, CHECKS},
@@ -118,15 +117,7 @@ impl LeafGenerator {
                     .pick(&[5_000_000_000, 1_000_000, 600_000_000, 1_000]),
             };
         };
-        let all = [
-            timers.snd,
-            timers.full_ack,
-            timers.nak,
-            timers.exp,
-            timers.peer_idle,
-            timers.statistics,
-        ];
-        let aimed = self.rng.pick(&all);
+        let aimed = self.rng.pick(&timers.all());
         let now = self.near(aimed);
         match self.rng.below(16) {
             0 => LeafCall::TimersSnd(self.period()),

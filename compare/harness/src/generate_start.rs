@@ -19,39 +19,60 @@ pub fn clock(rng: &mut Rng) -> u64 {
     }
 }
 
-pub fn settings(rng: &mut Rng, large: bool) -> Settings {
-    let first = match rng.below(6) {
+fn first(rng: &mut Rng) -> u64 {
+    match rng.below(6) {
         0 => rng.below(20),
         1..=2 => NUMBERS - rng.within(1, 40),
         3 => 16 * rng.below(NUMBERS / 16) + 15,
         _ => rng.below(NUMBERS),
-    };
-    let size = match rng.below(40) {
+    }
+}
+
+fn size(rng: &mut Rng, large: bool) -> u64 {
+    match rng.below(40) {
         _ if large => rng.within(1, 3),
         0 => 1_456,
         1 => rng.within(1, 1_456),
         _ => rng.within(1, 9),
-    };
-    let buffer = match rng.below(10) {
+    }
+}
+
+fn buffer(rng: &mut Rng, large: bool) -> u64 {
+    match rng.below(10) {
         _ if large => 8_192,
         0 => 0,
         1..=6 => rng.within(1, 8),
         _ => rng.within(9, 40),
-    };
-    let window = match rng.below(8) {
+    }
+}
+
+fn window(rng: &mut Rng, buffer: u64) -> u64 {
+    match rng.below(8) {
         0 => 0,
         1..=3 => rng.below(buffer + 3),
         4 => buffer,
         _ => rng.pick(&[8_192, 65_535]),
-    };
-    let latency = match rng.below(8) {
+    }
+}
+
+fn latency(rng: &mut Rng) -> u64 {
+    match rng.below(8) {
         0 => 0,
         1..=3 => 120_000,
         4 => rng.within(799_990, 800_010),
         5 => 1_000_000,
         6 => rng.below(3_000_000),
         _ => rng.pick(&[65_535_000, 4_000_003]),
-    };
+    }
+}
+
+/// The order of the draws is part of what a seed stands for.
+pub fn settings(rng: &mut Rng, large: bool) -> Settings {
+    let first = first(rng);
+    let size = size(rng, large);
+    let buffer = buffer(rng, large);
+    let window = window(rng, buffer);
+    let latency = latency(rng);
     let mut settings = Settings {
         first: first as u32,
         size: size as u32,

@@ -2,7 +2,8 @@
 //! leaves with the Rust inside the domain of equality and with the model on
 //! every call.
 
-use model::{Area, Bend};
+use calls::Area;
+use model::Bend;
 
 use crate::{
     call::LeafCall,

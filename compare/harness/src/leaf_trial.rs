@@ -59,15 +59,7 @@ impl LeafBooks {
         match (call, self.timer, self.timers) {
             (LeafCall::TimerCheck(now), Some(timer), _) => few(&timer, *now),
             (LeafCall::TimersCheck(_, now), _, Some(timers)) => {
-                let all = [
-                    timers.snd,
-                    timers.full_ack,
-                    timers.nak,
-                    timers.exp,
-                    timers.peer_idle,
-                    timers.statistics,
-                ];
-                all.iter().all(|timer| few(timer, *now)) && timers.exp_count < u32::MAX
+                timers.all().iter().all(|timer| few(timer, *now)) && timers.exp_count < u32::MAX
             }
             (LeafCall::TimersRtt(rtt), _, Some(timers)) => {
                 let once = 4 * u64::from(rtt.mean) + u64::from(rtt.variance) + 10_000;

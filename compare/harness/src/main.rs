@@ -36,11 +36,6 @@ use std::{env, fs, path::Path, process::ExitCode, time::Instant};
 use call::Call;
 use model::Bend;
 
-const USAGE: &str =
-    "compare short SECONDS [SEED] | full [SEED] | scripts | findings | gen SEED COUNT [AREA] | \
-                     sample SEED COUNT | sessions SEED COUNT | sample-check | \
-                     script FILE [--copy unmodified|repaired|model|rattle] | answers FILE | bend NAME";
-
 /// A faulty script or command line.
 const FAULTY: u8 = 2;
 
@@ -75,7 +70,7 @@ fn main() -> ExitCode {
             }
             Err(fault) => faulty(&fault),
         },
-        _ => faulty(USAGE),
+        _ => faulty("too many words or too few: compare/run alone lists its modes"),
     }
 }
 

@@ -3,8 +3,8 @@
 
 use std::time::{Duration, Instant};
 
-use calls::State;
-use model::{Area, Bend};
+use calls::{Area, State};
+use model::Bend;
 
 use crate::{
     bends,

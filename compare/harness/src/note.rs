@@ -4,6 +4,7 @@ use calls::{Acked, Loss, LossRun, PacketState, Pushed, Ran, Record, Refusal, Set
 
 use crate::{
     answer::Answer,
+    books::distance,
     call::SenderCall,
     domain::{late_window, Runs},
     reach::{Reach, Reached},
@@ -14,10 +15,6 @@ pub struct Seen<'a> {
     pub before: &'a State,
     pub after: &'a State,
     pub runs: Runs,
-}
-
-fn distance(a: u32, b: u32) -> u64 {
-    u64::from(b.wrapping_sub(a) % (1 << 31))
 }
 
 fn word(record: &Record, at: usize) -> u32 {

@@ -164,6 +164,21 @@ fn preset(words: &mut Words) -> Result<Call, String> {
     }
 }
 
+fn ack(words: &mut Words) -> Result<Ack, String> {
+    let number = words.number("number")?;
+    let rtt = if words.taken("rtt") {
+        Some(words.rtt()?)
+    } else {
+        None
+    };
+    let full = if words.taken("full") {
+        Some(words.number("full number")?)
+    } else {
+        None
+    };
+    Ok(Ack { number, full, rtt })
+}
+
 fn sender(name: &str, words: &mut Words) -> Result<SenderCall, String> {
     match name {
         "message" => Ok(SenderCall::Message {
@@ -171,20 +186,7 @@ fn sender(name: &str, words: &mut Words) -> Result<SenderCall, String> {
             now: words.number("now")?,
             payload: payload(words)?,
         }),
-        "ack" => {
-            let number = words.number("number")?;
-            let rtt = if words.taken("rtt") {
-                Some(words.rtt()?)
-            } else {
-                None
-            };
-            let full = if words.taken("full") {
-                Some(words.number("full number")?)
-            } else {
-                None
-            };
-            Ok(SenderCall::Ack(Ack { number, full, rtt }))
-        }
+        "ack" => Ok(SenderCall::Ack(ack(words)?)),
         "nak" => {
             let mut list = Vec::new();
             while words.rest.peek().is_some_and(|word| *word != "room") {

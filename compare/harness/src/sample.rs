@@ -5,8 +5,8 @@
 
 use std::{env, fs, path::PathBuf};
 
-use calls::{PacingState, TimerState, TimersState};
-use model::{Area, Bend};
+use calls::{Area, PacingState, TimerState, TimersState};
+use model::Bend;
 
 use crate::{
     answer::Answer,
@@ -79,8 +79,7 @@ fn timer(t: TimerState) -> String {
 }
 
 fn timers(t: TimersState) -> String {
-    let all = [t.snd, t.full_ack, t.nak, t.exp, t.peer_idle, t.statistics];
-    let all: Vec<String> = all.into_iter().map(timer).collect();
+    let all: Vec<String> = t.all().into_iter().map(timer).collect();
     format!("{} {}", t.exp_count, all.join(" "))
 }
 

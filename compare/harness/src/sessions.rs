@@ -3,8 +3,8 @@
 //! crates/sessions must print. They begin with document 01's ten bytes and end
 //! with refusals that the Rust doesn't give.
 
-use calls::{Settings, State};
-use model::{Area, Bend, BENDS};
+use calls::{Area, Settings, State};
+use model::{Bend, BENDS};
 
 use crate::{
     answering,
@@ -107,7 +107,11 @@ fn store(calls: &[Call]) -> Result<(), String> {
     let records: Option<Vec<Vec<u8>>> = calls.iter().map(record::write).collect();
     let records = records.ok_or("a call of the sessions has no record")?;
     let lines = answering::plain(&party::repaired(), calls) + &refusals::lines();
-    put(FOLDER, &[records.concat(), refusals::records()].concat(), &lines)
+    put(
+        FOLDER,
+        &[records.concat(), refusals::records()].concat(),
+        &lines,
+    )
 }
 
 /// Makes the sessions anew: the ten bytes, then of so many generated scripts

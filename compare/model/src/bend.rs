@@ -1,33 +1,6 @@
-//! Rules bent on purpose: a comparison that lets one of them pass is blind.
+//! Document 01's rules bent, one at a time.
 
-/// Which calls show a bend.
-#[derive(Clone, Copy, Debug, PartialEq, Eq)]
-pub enum Area {
-    Sender,
-    Timer,
-    Timers,
-    Pacing,
-    Split,
-    Header,
-}
-
-macro_rules! bends {
-    ($($area:ident: $($name:ident $text:literal)*;)*) => {
-        #[derive(Clone, Copy, Debug, PartialEq, Eq)]
-        pub enum Bend {
-            /// Document 01 as it is.
-            None,
-            $($($name,)*)*
-        }
-
-        /// Every bend, where it shows and what it does.
-        pub const BENDS: &[(Bend, Area, &str)] = &[
-            $($((Bend::$name, Area::$area, $text),)*)*
-        ];
-    };
-}
-
-bends! {
+calls::bends! {
     Sender:
         LatenessOnStamp "lateness is judged on the stamp"
         LatenessNotStrict "a packet is late at time + window already"

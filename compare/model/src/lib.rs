@@ -17,7 +17,7 @@ mod send;
 mod sender;
 mod timers;
 
-pub use bend::{Area, Bend, BENDS};
+pub use bend::{Bend, BENDS};
 pub use leaves::ModelLeaves;
 pub use sender::Model;
 

@@ -20,6 +20,14 @@ enum Rule {
     WaitInput,
 }
 
+fn wait_input() -> Record {
+    let fields = Fields {
+        kind: WAIT_INPUT,
+        ..Fields::default()
+    };
+    fields.record()
+}
+
 impl Model {
     pub(crate) fn run_rules(&mut self, run: &Run) -> Result<Ran, Refusal> {
         if run.now >= TIME_LIMIT {
@@ -111,11 +119,7 @@ impl Model {
                 u32::from(!self.bent(Bend::FlushFree))
             }
             Rule::WaitInput => {
-                let wait = Fields {
-                    kind: WAIT_INPUT,
-                    ..Fields::default()
-                };
-                records.push(wait.record());
+                records.push(wait_input());
                 0
             }
         }

@@ -1,25 +1,8 @@
 //! Answers of the proved code, and what it is given, bent on their way: the code
-//! itself can't be, since it wouldn't be proved. A comparison that lets one pass
-//! is blind.
+//! itself can't be, since it wouldn't be proved.
 
-macro_rules! bends {
-    ($($area:literal: $($name:ident $text:literal)*;)*) => {
-        #[derive(Clone, Copy, Debug, PartialEq, Eq)]
-        pub enum Bend {
-            /// The answers as they are.
-            None,
-            $($($name,)*)*
-        }
-
-        /// Every bend, where it shows (the sender or a leaf) and what it does.
-        pub const BENDS: &[(Bend, &str, &str)] = &[
-            $($((Bend::$name, $area, $text),)*)*
-        ];
-    };
-}
-
-bends! {
-    "sender":
+calls::bends! {
+    Sender:
         LastByteTurned "a message's last byte is given turned over"
         MadeOneMore "a message makes one packet more"
         RemovedUntold "packets removed aren't told"
@@ -71,28 +54,28 @@ bends! {
         RefusedLost "a refused call changes the loss list"
         RefusedStore "a refused call changes the store"
         RefusedList "a refused call changes its answer list";
-    "timer":
+    Timer:
         TimerKept "a timer isn't moved by a check"
         OnePeriodMore "a timer tells one period more"
         InstantIsOrigin "the next instant is the origin"
         RefusalOneUp "a timer's refusal has the next number"
         RefusedMoves "a refused check moves the timer";
-    "timers":
+    Timers:
         NakAsAck "a check of NAK goes to ACK"
         StatisticsKept "the statistics timer isn't moved by a check"
         ExpCountKept "the EXP count doesn't go up"
         MessageForgotten "the next wake-up doesn't know the next message"
         VarianceAsMean "mean and variance are swapped";
-    "pacing":
+    Pacing:
         InputAsEstimated "input mode is taken for estimated mode"
         PacketsAsBytes "packets and bytes are swapped"
         PeriodSilent "a period of 1 is taken for none"
         VarianceLost "the byte rate's variance is lost";
-    "split":
+    Split:
         PlacesTurned "first and last are swapped"
         LastFull "a last packet is as long as the others"
         OneFewer "the last packet isn't asked for";
-    "header":
+    Header:
         NeverAgain "the retransmitted flag is never set"
         StampAsId "stamp and socket id are swapped"
         NumberAsMessage "number and message number are swapped";

@@ -6,9 +6,8 @@ use std::{borrow::Cow, ops::Range};
 use calls::{Loss, LossRun, Ran, Record};
 
 use crate::{
-    entries::{
-        AckAnswer, Areas, Brought, Flat, Held, MessageAnswer, PayloadAnswer, Refused, ReportsAnswer,
-    },
+    entries::{Areas, Brought},
+    flat::{AckAnswer, Flat, Held, MessageAnswer, PayloadAnswer, Refused, ReportsAnswer},
     Bend,
 };
 

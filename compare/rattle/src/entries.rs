@@ -2,138 +2,13 @@
 //! them, each with a safe call. A lent area crosses as a pointer and how many
 //! elements it has.
 
-use crate::library::{Pacing, Rtt};
-
-/// The settings of a sender.
-#[repr(C)]
-#[derive(Clone, Copy, Debug, Default, PartialEq, Eq)]
-pub struct Settings {
-    pub first: u32,
-    pub size: u32,
-    pub buffer: u32,
-    pub flow: u32,
-    pub latency: u32,
-    pub overhead: u32,
-    pub socket: u32,
-}
-
-/// Which slots of the ring hold packets.
-#[repr(C)]
-#[derive(Clone, Copy, Debug, Default, PartialEq, Eq)]
-pub struct Ring {
-    pub cap: usize,
-    pub slot: usize,
-    pub len: usize,
-}
-
-/// The flushed packet.
-#[repr(C)]
-#[derive(Clone, Copy, Debug, Default, PartialEq, Eq)]
-pub struct Held {
-    pub held: u32,
-    pub number: u32,
-    pub slot: usize,
-    pub len: usize,
-}
-
-/// What the send buffer keeps.
-#[repr(C)]
-#[derive(Clone, Copy, Debug, Default, PartialEq, Eq)]
-pub struct Books {
-    pub ring: Ring,
-    pub front: u32,
-    pub sent: u32,
-    pub lost: usize,
-    pub bytes: u64,
-    pub rtt: Rtt,
-    pub expected: u64,
-    pub held: Held,
-    pub message: u32,
-}
-
-/// All that a sender keeps beside the lent areas.
-#[repr(C)]
-#[derive(Clone, Copy, Debug, Default, PartialEq, Eq)]
-pub struct Flat {
-    pub settings: Settings,
-    pub books: Books,
-    pub pacing: Pacing,
-}
-
-/// The refusal's number, 0 for none, and its values.
-#[repr(C)]
-#[derive(Clone, Copy, Debug, Default, PartialEq, Eq)]
-pub struct Refused {
-    pub number: u32,
-    pub first: u64,
-    pub second: u64,
-    pub third: u64,
-}
-
-#[repr(C)]
-#[derive(Clone, Copy, Debug, PartialEq, Eq)]
-pub struct NewAnswer {
-    pub refusal: Refused,
-    pub sender: Flat,
-}
-
-#[repr(C)]
-#[derive(Clone, Copy, Debug, PartialEq, Eq)]
-pub struct MessageAnswer {
-    pub refusal: Refused,
-    pub made: usize,
-    pub removed: usize,
-    pub bytes: u64,
-    pub period: u64,
-    pub sender: Flat,
-}
-
-#[repr(C)]
-#[derive(Clone, Copy, Debug, PartialEq, Eq)]
-pub struct AckAnswer {
-    pub refusal: Refused,
-    pub received: u32,
-    pub recovered: u32,
-    pub full: bool,
-    pub full_number: u32,
-    pub sender: Flat,
-}
-
-#[repr(C)]
-#[derive(Clone, Copy, Debug, PartialEq, Eq)]
-pub struct NakAnswer {
-    pub refusal: Refused,
-    pub runs: usize,
-    pub sender: Flat,
-}
-
-#[repr(C)]
-#[derive(Clone, Copy, Debug, PartialEq, Eq)]
-pub struct RunAnswer {
-    pub refusal: Refused,
-    pub records: usize,
-    pub left: u32,
-    pub sender: Flat,
-}
-
-#[repr(C)]
-#[derive(Clone, Copy, Debug, PartialEq, Eq)]
-pub struct PayloadAnswer {
-    pub refusal: Refused,
-    pub place: usize,
-    pub len: usize,
-}
-
-#[repr(C)]
-#[derive(Clone, Copy, Debug, PartialEq, Eq)]
-pub struct ReportsAnswer {
-    pub refusal: Refused,
-    pub is_flushed: bool,
-    pub has_packets_to_send: bool,
-    pub len: usize,
-    pub len_bytes: u64,
-    pub duration: u64,
-}
+use crate::{
+    flat::{
+        AckAnswer, Flat, MessageAnswer, NakAnswer, NewAnswer, PayloadAnswer, ReportsAnswer,
+        RunAnswer, Settings,
+    },
+    library::Rtt,
+};
 
 /// The areas that stay lent. Each is lent for writing, also where an entry says
 /// that it reads it only: so a write there would be seen.
@@ -165,7 +40,7 @@ mod declared {
             payload_len: usize,
             ring: *mut u64,
             ring_len: usize,
-            lost: *mut u32,
+            lost: *const u32,
             lost_len: usize,
             store: *mut u8,
             store_len: usize,
@@ -179,7 +54,7 @@ mod declared {
             rtt: Rtt,
             ring: *const u64,
             ring_len: usize,
-            lost: *mut u32,
+            lost: *const u32,
             lost_len: usize,
         ) -> AckAnswer;
         pub fn srt_entry_nak(
@@ -200,7 +75,7 @@ mod declared {
             draining: bool,
             ring: *mut u64,
             ring_len: usize,
-            lost: *mut u32,
+            lost: *const u32,
             lost_len: usize,
             out: *mut u8,
             out_len: usize,
@@ -239,7 +114,7 @@ pub fn message(
 ) -> MessageAnswer {
     let (bytes, len) = (payload.as_ptr(), payload.len());
     let (ring, ring_len) = (lent.ring.as_mut_ptr(), lent.ring.len());
-    let (lost, lost_len) = (lent.lost.as_mut_ptr(), lent.lost.len());
+    let (lost, lost_len) = (lent.lost.as_ptr(), lent.lost.len());
     let (store, store_len) = (lent.store.as_mut_ptr(), lent.store.len());
     // Sound: the pointers are of slices as long as said, the written ones borrowed
     // alone; the entry is proved to require nothing more.
@@ -260,7 +135,7 @@ pub fn ack(given: Flat, brought: Brought, lent: &mut Areas) -> AckAnswer {
     let (with_full, full) = (full.is_some(), full.unwrap_or(u32::MAX));
     let (measured, rtt) = (rtt.is_some(), rtt.unwrap_or(none));
     let (ring, ring_len) = (lent.ring.as_mut_ptr(), lent.ring.len());
-    let (lost, lost_len) = (lent.lost.as_mut_ptr(), lent.lost.len());
+    let (lost, lost_len) = (lent.lost.as_ptr(), lent.lost.len());
     // Sound, as in `message`.
     unsafe {
         declared::srt_entry_ack(
@@ -291,7 +166,7 @@ pub fn run(
     out: &mut [u8],
 ) -> RunAnswer {
     let (ring, ring_len) = (lent.ring.as_mut_ptr(), lent.ring.len());
-    let (lost, lost_len) = (lent.lost.as_mut_ptr(), lent.lost.len());
+    let (lost, lost_len) = (lent.lost.as_ptr(), lent.lost.len());
     let (list, list_len) = (out.as_mut_ptr(), out.len());
     // Sound, as in `message`.
     unsafe {

@@ -7,14 +7,15 @@ use calls::{payload_sum, PacketState, Record, Refusal, Rtt, State};
 
 use crate::{
     bent,
-    entries::{Areas, Flat, Refused, Ring},
+    entries::Areas,
+    flat::{Flat, Refused, Ring},
     leaves, pacing, Bend,
 };
 
 /// Sequence numbers are below this.
 const NUMBERS: usize = 1 << 31;
 /// Words of a packet in the ring.
-const WIDTH: usize = 6;
+pub const WIDTH: usize = 6;
 /// What lent lists and areas hold before they are written.
 const BLANK: u8 = 0xa5;
 
@@ -158,6 +159,11 @@ impl Kept {
         assert!(self.before.ring == self.lent.ring, "{call}: the ring");
     }
 
+    /// The loss list's area is as before the call.
+    pub fn lost_stays(&self, call: &str) {
+        assert!(self.before.lost == self.lent.lost, "{call}: the loss list");
+    }
+
     /// The store is as before the call.
     pub fn store_stays(&self, call: &str) {
         assert!(self.before.store == self.lent.store, "{call}: the store");
@@ -202,7 +208,7 @@ impl Kept {
         }
     }
 
-    /// The books; the loss list is read in whatever order it lies.
+    /// The books; the loss list lies farthest first.
     pub fn state(&self, out: &mut State) {
         let books = &self.flat.books;
         out.packets.clear();
@@ -212,9 +218,7 @@ impl Kept {
         out.next_number = self.number(books.ring.len);
         out.next_message = books.message;
         out.lost.clear();
-        out.lost.extend(&self.lent.lost[..books.lost]);
-        let ahead = |number: &u32| (*number as usize + NUMBERS - books.front as usize) % NUMBERS;
-        out.lost.sort_unstable_by_key(ahead);
+        out.lost.extend(self.lent.lost[..books.lost].iter().rev());
         out.rtt = Rtt {
             mean: books.rtt.mean,
             variance: books.rtt.variance,

@@ -11,6 +11,8 @@ mod books;
 #[cfg(linked)]
 mod entries;
 #[cfg(linked)]
+mod flat;
+#[cfg(linked)]
 mod kept;
 #[cfg(linked)]
 mod leaves;

@@ -3,13 +3,13 @@
 use std::cell::RefCell;
 
 use calls::{
-    Ack, Acked, Loss, LossRun, Pushed, Ran, Record, Refusal, Reports, Run, Sender, Sent, Settings,
-    State,
+    Ack, Acked, LossRun, Pushed, Ran, Record, Refusal, Reports, Run, Sender, Sent, Settings, State,
 };
 
 use crate::{
     bent,
-    entries::{self, Brought, Flat},
+    entries::{self, Brought},
+    flat::{self, Flat},
     kept::{blank_list, stays_blank, Kept},
     library, pacing, Bend,
 };
@@ -27,8 +27,8 @@ pub struct RattleSender {
 
 /// The settings as they cross; a latency that 32 bits don't hold is out of range
 /// either way.
-fn settings_of(settings: &Settings) -> entries::Settings {
-    entries::Settings {
+fn settings_of(settings: &Settings) -> flat::Settings {
+    flat::Settings {
         first: settings.first,
         size: settings.size,
         buffer: settings.buffer,
@@ -49,20 +49,6 @@ fn lent(room: u64, most: usize, width: usize) -> usize {
 /// Four bytes of a record, the lowest first.
 fn word(record: &Record, at: usize) -> u32 {
     u32::from_le_bytes([record[at], record[at + 1], record[at + 2], record[at + 3]])
-}
-
-/// A run from its three words.
-fn loss_run(run: &[u32]) -> LossRun {
-    LossRun {
-        loss: match run[0] {
-            1 => Loss::Added,
-            2 => Loss::Ignored,
-            3 => Loss::Dropped,
-            other => panic!("there is no kind of loss {other}"),
-        },
-        first: run[1],
-        end: run[2],
-    }
 }
 
 impl RattleSender {
@@ -115,6 +101,7 @@ impl Sender for RattleSender {
         let mut answer = entries::message(kept.flat, time, now, payload, &mut kept.lent);
         bent::message(kept.bend, &mut answer);
         kept.settle(answer.refusal, answer.sender)?;
+        kept.lost_stays("a message");
         kept.store_took(payload, ring);
         Ok(Pushed {
             made: answer.made as u64,
@@ -141,6 +128,7 @@ impl Sender for RattleSender {
         bent::ack(kept.bend, &kept.flat, &mut answer);
         kept.settle(answer.refusal, answer.sender)?;
         kept.ring_stays("an ACK");
+        kept.lost_stays("an ACK");
         kept.store_stays("an ACK");
         let none = !answer.full && answer.full_number > 0;
         assert!(!none, "a full number is told that wasn't brought");
@@ -163,7 +151,7 @@ impl Sender for RattleSender {
         kept.ring_stays("a loss report");
         kept.store_stays("a loss report");
         let runs = kept.runs[..RUN * answer.runs].chunks(RUN);
-        let mut runs: Vec<LossRun> = runs.map(loss_run).collect();
+        let mut runs: Vec<LossRun> = runs.map(LossRun::read).collect();
         bent::runs(kept.bend, &mut runs);
         Ok(runs)
     }
@@ -179,6 +167,7 @@ impl Sender for RattleSender {
         bent::list(kept.bend, answer.refusal, &mut kept.records);
         stays_blank(&kept.records, answer.refusal, RECORD * answer.records);
         kept.settle(answer.refusal, answer.sender)?;
+        kept.lost_stays("a run");
         kept.store_stays("a run");
         let records = kept.records[..RECORD * answer.records].chunks_exact(RECORD);
         let record = |bytes| Record::try_from(bytes).expect("a record's bytes");

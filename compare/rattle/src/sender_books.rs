@@ -4,7 +4,9 @@
 
 use crate::{
     books::broken_pacing,
-    entries::{self, Areas, Books, Brought, Flat, Held, Refused, Ring, Settings},
+    entries::{self, Areas, Brought},
+    flat::{Books, Flat, Held, Refused, Ring, Settings},
+    kept::WIDTH,
     library::Rtt,
 };
 
@@ -12,8 +14,6 @@ const SETTING: u32 = 1;
 const STORE: u32 = 2;
 const STATE: u32 = 3;
 const COUNT: u32 = 6;
-/// Words of a packet in the ring.
-const WIDTH: usize = 6;
 
 /// What a host has between two calls.
 #[derive(Clone, PartialEq)]

@@ -1,0 +1,152 @@
+/* host.c: lending, and what is checked after a call of the sender. */
+#include "host.h"
+#include "notes.h"
+
+#include <string.h>
+
+struct host kept;
+
+/* ---- Lending --------------------------------------------------------------------------------------------------- */
+
+/* Messages are the last bytes of one area. */
+static uint8_t payload_byte(size_t i)
+{
+    return (uint8_t)(131 * i + i / 251);
+}
+
+void map_areas(void)
+{
+    area_map(&kept.ring, PACKETS_MOST * 6, 8);
+    area_map(&kept.lost, PACKETS_MOST, 4);
+    area_map(&kept.store, STORE_MOST, 1);
+    area_map(&kept.payload, PAYLOAD_ROOM, 1);
+    area_map(&kept.words, WORDS_ROOM, 4);
+    area_map(&kept.runs, WORDS_ROOM * 9, 4);
+    area_map(&kept.records, SRT_RECORDS_BYTES(PACKETS_MOST, PACKETS_MOST), 1);
+    area_map(&kept.header, SRT_HEADER_BYTES, 1);
+    area_fix(&kept.payload, payload_byte);
+    memset(kept.runs.kept, 0xee, kept.runs.room);
+    memset(kept.records.kept, 0xee, kept.records.room);
+}
+
+/* A length other than the one that the settings ask for. */
+static size_t other_length(size_t asked, size_t most)
+{
+    const struct call *l = &kept.lend;
+    const size_t by = l->a % 16;
+    switch (l->how >> 4 & 3) {
+    case 0:
+        return asked - least(asked, by);
+    case 1:
+        return least(asked + by, most);
+    case 2:
+        return 0;
+    default:
+        return l->b % (most + 1);
+    }
+}
+
+static void lend(struct area *a, size_t asked, unsigned bit)
+{
+    const size_t most = area_most(a);
+    const size_t len = least(asked, most);
+    area_lend(a, kept.lend.how & bit ? other_length(len, most) : len, kept.front);
+}
+
+struct srt_areas lend_areas(void)
+{
+    const struct srt_settings *c = &kept.sender.settings;
+    lend(&kept.ring, SRT_RING_WORDS(c->buffer), 1);
+    lend(&kept.lost, SRT_LOST_WORDS(c->buffer), 2);
+    lend(&kept.store, SRT_STORE_BYTES(c->buffer, c->size), 4);
+    kept.lend.how = 0;
+    return (struct srt_areas){RING, LOST, STORE};
+}
+
+/* ---- After a call ---------------------------------------------------------------------------------------------- */
+
+void note_answer(unsigned step, uint32_t number)
+{
+    const unsigned here = step * 16 + number % 16;
+    note(NOTE_ENTRY + step, number);
+    note(NOTE_STEP + kept.last % 16, here);
+    kept.last = here;
+}
+
+void areas_stay(void)
+{
+    area_stays(&kept.ring);
+    area_stays(&kept.lost);
+    area_stays(&kept.store);
+}
+
+bool refused(enum step step, const struct srt_sender *left, const struct srt_sender *back, const want *why,
+             const want *wanted)
+{
+    note_answer(step, why->number);
+    must(same_refusal(why, wanted), "another refusal than document 01's");
+    if (why->number == 0)
+        return false;
+    must(same_sender(left, back), "a refused call changed the sender");
+    kept.sender = *left;
+    areas_stay();
+    return true;
+}
+
+struct copy modelled(void)
+{
+    return (struct copy){kept.sender, (uint64_t *)kept.ring.kept, (uint32_t *)kept.lost.kept, kept.store.kept,
+                         kept.records.kept, (uint32_t *)kept.runs.kept};
+}
+
+void check_reports(const struct srt_reports_answer *r)
+{
+    const struct srt_books *b = &kept.sender.books;
+    struct copy by = modelled();
+    struct srt_reports wanted;
+    must(r->refusal.number == 0, "an accepted call left books that are refused");
+    model_reports(&by, &wanted);
+    must(same_reports(&r->done, &wanted), "reports: another answer");
+    note(NOTE_SHAPE, size_of(b->ring.len) * 16 + size_of(b->lost));
+    note(NOTE_SHAPE + 1, size_of(b->sent) * 16 + size_of(b->ring.len - b->sent));
+    note(NOTE_SHAPE + 2, size_of(wanted.duration));
+}
+
+void go_on(const struct copy *by, const struct srt_sender *back)
+{
+    must(same_sender(&by->sender, back), "an accepted call left another sender than document 01");
+    areas_stay();
+    kept.sender = *back;
+    kept.damaged = false;
+    const struct srt_reports_answer r = srt_entry_reports(kept.sender, RING, LOST);
+    check_reports(&r);
+}
+
+/* ---- A damage for one call ------------------------------------------------------------------------------------- */
+
+/* The books as they were before they were damaged. */
+static struct {
+    struct srt_sender sender;
+    uint64_t ring[PACKETS_MOST * 6];
+    uint32_t lost[PACKETS_MOST];
+} undamaged;
+
+void before_damage(void)
+{
+    if (kept.damaged)
+        return;
+    kept.damaged = true;
+    undamaged.sender = kept.sender;
+    memcpy(undamaged.ring, kept.ring.kept, sizeof undamaged.ring);
+    memcpy(undamaged.lost, kept.lost.kept, sizeof undamaged.lost);
+}
+
+void repair(void)
+{
+    if (!kept.damaged)
+        return;
+    kept.damaged = false;
+    kept.sender = undamaged.sender;
+    memcpy(kept.ring.kept, undamaged.ring, sizeof undamaged.ring);
+    memcpy(kept.lost.kept, undamaged.lost, sizeof undamaged.lost);
+}

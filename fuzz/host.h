@@ -1,0 +1,98 @@
+/* The host that an input plays: its sender, its timers, and what it lends. */
+#ifndef HOST_H
+#define HOST_H
+
+#include "areas.h"
+#include "input.h"
+#include "rules.h"
+
+enum {
+    PACKETS_MOST = 340,
+    STORE_MOST = 64 * 1024,
+    WORDS_ROOM = 640,
+    PAYLOAD_ROOM = SRT_MESSAGE_MOST + 64
+};
+
+/* What is kept from call to call. */
+struct host {
+    struct srt_sender sender;
+    struct srt_timers timers;
+    struct area ring, lost, store, payload, words, runs, records, header;
+    bool front;       /* areas are lent at the front of their pages */
+    uint64_t clock;   /* microseconds */
+    uint64_t ticks;   /* nanoseconds, for the timers */
+    struct call lend; /* how the next call's areas are lent */
+    bool damaged;     /* for the next call alone */
+    unsigned last;    /* what the last call was and answered */
+};
+
+extern struct host kept;
+
+static inline size_t least(size_t a, size_t b)
+{
+    return a < b ? a : b;
+}
+
+/* ---- host.c */
+
+void map_areas(void);
+
+/* Lends ring, loss list and store as the settings ask, or as the call before said. */
+struct srt_areas lend_areas(void);
+
+#define RING (uint64_t *)kept.ring.at, kept.ring.len
+#define LOST (uint32_t *)kept.lost.at, kept.lost.len
+#define STORE kept.store.at, kept.store.len
+
+/* Shows the fuzzer what a step was answered, and after which. */
+void note_answer(unsigned step, uint32_t number);
+
+/* Whether a call was refused, as |wanted| says: it gave back |left| then, and wrote nothing. */
+bool refused(enum step step, const struct srt_sender *left, const struct srt_sender *back, const want *why,
+             const want *wanted);
+
+/* The sender and the areas for a model to work in: what is kept becomes what the call must leave. */
+struct copy modelled(void);
+
+/* The lent areas are as they are kept. */
+void areas_stay(void);
+
+/* The reports of what is kept are the model's. */
+void check_reports(const struct srt_reports_answer *r);
+
+/* An accepted call left what the model did; the next call takes it. */
+void go_on(const struct copy *by, const struct srt_sender *back);
+
+/* Keeps the books as they are, so that a damage is for one call; and undoes it, but where an accepted call went on. */
+void before_damage(void);
+void repair(void);
+
+/* ---- choose.c: arguments from a call's numbers */
+
+/* A time below 2^bits: a little later, up to some seconds later, any, or at the limit. */
+uint64_t time_of(unsigned how, uint64_t value, uint64_t *clock, unsigned bits);
+
+/* A sequence number: near the front, the next unsent, the back, or any. */
+uint32_t sequence_of(const struct call *k);
+
+/* The bytes of a message. */
+size_t length_of(const struct call *k);
+
+/* Word |i| of a loss report. */
+uint32_t word_of(const struct call *k, size_t i);
+
+/* How long a list for the answer is: as long as it must be, one element less, longer, or any. */
+size_t room_of(unsigned how, size_t needed, uint32_t any, const struct area *a);
+
+/* ---- calls.c, timers.c, damage.c: the steps */
+
+void call_new(const struct srt_settings *c, uint32_t mode, uint64_t rate, uint64_t overhead);
+void call_sender(const struct call *k);
+void call_header(const struct call *k);
+void call_timers(const struct call *k);
+
+void renew(const struct call *k);
+void break_books(const struct call *k);
+void break_timers(const struct call *k);
+
+#endif
