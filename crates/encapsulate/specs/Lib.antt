@@ -1,3 +1,4 @@
+pub mod Examples
 pub mod Figures
 pub mod Header
 pub mod Split

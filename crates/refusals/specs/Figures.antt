@@ -5,6 +5,8 @@ use mathlib.Core.List.{List, [], _∷_, map}
 use Prim.Native.Nat.{ℕ}
 use Rattle.numbers.specs.declared.SeqNumber.{SeqNumber}
 use Rattle.refusals.specs.Table.{numberOf, valuesOf}
+use Rattle.refusals.specs.Verdict.{verdictNumber}
+use Rattle.refusals.specs.declared.Verdict.the-variants as verdict
 use Rattle.refusals.specs.declared.Refusal.{Refusal}
 use Rattle.refusals.specs.declared.Refusal.the-variants.{BadSetting, BadStore, BadState, BadTime, TooLong, CountFull, BadNumber, BadRtt, Empty, InvalidAck, StaleFullAck, BadNak, NoRoom, NotHeld}
 
@@ -33,6 +35,8 @@ pub record Figures : Type 0 where
   pub numbers : map numberOf table ≡ 1 ∷ 2 ∷ 3 ∷ 4 ∷ 5 ∷ 6 ∷ 7 ∷ 8 ∷ 9 ∷ 10 ∷ 11 ∷ 12 ∷ 13 ∷ 14 ∷ []
   -- "with only what the table names": 10 all three, 11 both, 12 the index
   pub values : map valuesOf table ≡ [] ∷ [] ∷ [] ∷ [] ∷ [] ∷ [] ∷ [] ∷ [] ∷ [] ∷ (21 ∷ 22 ∷ 23 ∷ []) ∷ (24 ∷ 25 ∷ []) ∷ (26 ∷ []) ∷ [] ∷ [] ∷ []
+  -- an accepted call's number is 0, which no refusal has
+  pub accepted : verdictNumber verdict.Accepted ∷ map (λ (r : Refusal). verdictNumber (verdict.Refused r)) (BadSetting ∷ NotHeld ∷ []) ≡ 0 ∷ 1 ∷ 14 ∷ []
 
 pub figures : Figures
-figures = record { numbers = refl; values = refl }
+figures = record { numbers = refl; values = refl; accepted = refl }

@@ -1,22 +1,60 @@
--- Worked examples of the calls that set the timers, from document 01, "Refusal numbers", so that a definition that is wrong in code and
--- specs alike is refused.
+-- Worked examples of the calls that make and set the timers, from document 01, "Timers" and "Refusal numbers", and the Rust's time/mod.rs, so
+-- that a definition that is wrong in code and specs alike is refused.
 -- Assumes nothing.
 use mathlib.Core.Path.{_≡_, refl}
-use Rattle.refusals.specs.declared.Refusal.the-variants.{BadSetting, BadState}
+use Prim.Native.Nat.{ℕ, _+_, _^_}
+use Rattle.refusals.specs.declared.Refusal.the-variants.{BadSetting, BadState, BadTime, BadRtt}
+use Rattle.rtt.specs.declared.Rtt.{Rtt}
+use Rattle.periods.specs.Periods.{expPeriod}
 use Rattle.timer.specs.Timer.{timer}
 use Rattle.timers.specs.declared.Timers.{Timers}
-use Rattle.timers.specs.declared.TimersSet.the-variants.{Refused}
-use Rattle.timers.specs.Timers.{timers, judgePeriod, updateSndPeriod, judgeRtt, updateRtt}
+use Rattle.timers.specs.declared.TimersSet.the-variants.{Done, Refused}
+use Rattle.timers.specs.Timers.{timers, judge, judgeNew, judgePeriod, judgeRtt, new, updateSndPeriod, updateRtt, resetExp}
 
--- an EXP count of 0 is damage
-abbrev damaged : Timers
-damaged = timers (timer 5 0) (timer 6 0) (timer 70 0) (timer 10 0) 0 (timer 15 0) (timer 90 0)
+-- each timer with an origin of its own, and this EXP count; 0 is damage
+abbrev each : ℕ → Timers
+each count = timers (timer 5 1) (timer 6 2) (timer 70 3) (timer 10 4) count (timer 15 6) (timer 90 7)
+
+abbrev rtt : ℕ → ℕ → Rtt
+rtt mean variance = record { mean = mean; variance = variance }
 
 pub record Examples : Type 0 where
-  -- "The lowest that applies is given": 1 before 3, 3 before 8
-  pub lowest-setting : updateSndPeriod damaged 1_000_000_000_000_001 ≡ Refused BadSetting
-  pub lowest-state : updateRtt damaged (record { mean = 100_000_001; variance = 0 }) ≡ Refused BadState
+  -- SND at 1 ms, ACK, NAK and EXP by the RTT at the start, the two intervals as asked
+  pub made : new 8 4_000_000 3_000_000
+      ≡ Done (timers (timer 1_000_000 8) (timer 10_000_000 8) (timer 150_000_000 8) (timer 460_000_000 8) 1 (timer 3_000_000 8) (timer 4_000_000 8))
+  -- a period leaves its origin; an RTT sets three, EXP's with its count: max(2 × (4 + 0 + 10) ms, 2 × 300 ms)
+  pub snd-set : updateSndPeriod (each 2) 9 ≡ Done (timers (timer 9 1) (timer 6 2) (timer 70 3) (timer 10 4) 2 (timer 15 6) (timer 90 7))
+  pub rtt-set : updateRtt (each 2) (rtt 1_000 0)
+      ≡ Done (timers (timer 5 1) (timer 10_000_000 2) (timer 20_000_000 3) (timer 600_000_000 4) 2 (timer 15 6) (timer 90 7))
+  -- the count starts again at 1 and the idle timer at now; EXP's own origin stays
+  pub exp-reset : resetExp (each 2) 99 ≡ Done (timers (timer 5 1) (timer 6 2) (timer 70 3) (timer 10 4) 1 (timer 15 99) (timer 90 7))
+  -- each refusal; "The lowest that applies is given": 1 before 3, 1 before 4, 3 before 4, 3 before 8
+  pub long-statistics : new (2 ^ 58) (10 ^ 15 + 1) 0 ≡ Refused BadSetting
+  pub long-idle : new 0 0 (10 ^ 15 + 1) ≡ Refused BadSetting
+  pub late : new (2 ^ 58) 0 0 ≡ Refused BadTime
+  pub late-reset : resetExp (each 1) (2 ^ 58) ≡ Refused BadTime
+  pub bad-rtt : updateRtt (each 1) (rtt 0 100_000_001) ≡ Refused BadRtt
+  pub lowest-setting : updateSndPeriod (each 0) (10 ^ 15 + 1) ≡ Refused BadSetting
+  pub lowest-state : updateRtt (each 0) (rtt 100_000_001 0) ≡ Refused BadState
+  pub lowest-time : resetExp (each 0) (2 ^ 58) ≡ Refused BadState
+  -- a timer that breaks a book rule, wherever it stands
+  pub bad-idle : resetExp (timers (timer 5 1) (timer 6 2) (timer 70 3) (timer 10 4) 1 (timer 15 (2 ^ 58)) (timer 90 7)) 9 ≡ Refused BadState
 
 pub examples : Examples
-unfolding updateSndPeriod judgePeriod updateRtt judgeRtt
-examples = record { lowest-setting = refl; lowest-state = refl }
+unfolding new judgeNew updateSndPeriod judgePeriod updateRtt judgeRtt resetExp judge expPeriod
+examples =
+    record {
+      made = refl;
+      snd-set = refl;
+      rtt-set = refl;
+      exp-reset = refl;
+      long-statistics = refl;
+      long-idle = refl;
+      late = refl;
+      late-reset = refl;
+      bad-rtt = refl;
+      lowest-setting = refl;
+      lowest-state = refl;
+      lowest-time = refl;
+      bad-idle = refl;
+    }
