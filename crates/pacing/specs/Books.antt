@@ -13,11 +13,11 @@ use Rattle.refusals.specs.declared.Refusal.the-variants.{BadSetting}
 use Rattle.pacing.specs.declared.options.LiveBandwidthMode.{LiveBandwidthMode}
 use Rattle.pacing.specs.declared.Next.{Next}
 use Rattle.pacing.specs.declared.Next.the-variants.{Unset, At}
-use Rattle.pacing.specs.declared.rate.RateEstimation.{RateEstimation}
+use Rattle.rate.specs.declared.RateEstimation.{RateEstimation}
 use Rattle.pacing.specs.declared.SenderCongestionControl.{SenderCongestionControl}
 use Rattle.pacing.specs.declared.Made.{Made}
 use Rattle.pacing.specs.declared.Made.the-variants.{Control, Refused}
-use Rattle.pacing.specs.Rate.{inRange}
+use Rattle.rate.specs.Rate.{inRange}
 use Rattle.pacing.specs.Period.{modeInRange}
 
 -- "pacing's next below 2^49"

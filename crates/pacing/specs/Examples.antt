@@ -1,6 +1,5 @@
 -- Worked examples, computed by hand from document 01, "Pacing": where a definition and the code go wrong alike, one of these falls.
 --   inputs                  four inputs to one sender: unset, before next, at next, and a whole period after it
---   estimates               above the mean; with a variance alone; after silence, mean and variance 0 again
 --   four-modes, mode-ends   allowed rates, and the ends of a mode's ranges
 --   periods                 a period; held at both ends; with a divisor 0
 --   count-ends              the ends of what may be counted, before next and at it
@@ -11,11 +10,11 @@ use mathlib.Core.Bool.{true, false}
 use Prim.Native.Nat.{ℕ, _+_, _-_, _^_}
 use Rattle.refusals.specs.declared.Refusal.the-variants.{BadState, BadTime}
 use Rattle.pacing.specs.declared.options.LiveBandwidthMode.the-variants.{Input, Estimated, Max, Unlimited}
-use Rattle.pacing.specs.declared.rate.RateEstimation.{RateEstimation}
+use Rattle.rate.specs.declared.RateEstimation.{RateEstimation}
 use Rattle.pacing.specs.declared.Next.the-variants.{At}
 use Rattle.pacing.specs.declared.SenderCongestionControl.{SenderCongestionControl}
 use Rattle.pacing.specs.declared.Paced.the-variants.{Silent, Period, Refused}
-use Rattle.pacing.specs.Rate.{newMean, estimate}
+use Rattle.rate.specs.Rate.{newMean, estimate}
 use Rattle.pacing.specs.Period.{allowed, period, modeInRange}
 use Rattle.pacing.specs.Books.{kept, control, fresh}
 use Rattle.pacing.specs.Pacing.{countFull, estimated, movedAt, moved, added, after, sndPeriod, input, onInput}
@@ -35,15 +34,6 @@ pub inputs :
     × (onInput (at 201_000 (est 1 50 0) (est 1_000 50_000 0)) 301_000 0 0 ≡ Period 1_008 (at 401_000 (est 0 44 9) (est 0 44_375 9_843)))
 unfolding onInput kept countFull input after added moved movedAt estimated estimate newMean sndPeriod period
 inputs = (refl, refl, refl, refl)
-
--- (100 + 300) / 2 and (24 + |200 − 300|) / 4; (0 + 40) / 2 and (24 + |20 − 40|) / 4; (7 × 1 + 0) / 8; then the rate itself
-pub estimates :
-    (estimate 100_000 (est 30 100 8) ≡ est 0 200 31)
-    × (estimate 100_000 (est 4 0 8) ≡ est 0 20 11)
-    × (estimate 100_000 (est 0 1 0) ≡ est 0 0 0)
-    × (estimate 100_000 (est 7 0 0) ≡ est 0 70 0)
-unfolding estimate newMean
-estimates = (refl, refl, refl, refl)
 
 -- 999 × 125 / 100; max(1,000, 3,000) × 150 / 100 and max(5,000, 3,000) × 150 / 100; the maximum; a gigabit
 pub four-modes :

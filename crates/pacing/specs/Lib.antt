@@ -1,4 +1,3 @@
-pub mod Rate
 pub mod Period
 pub mod Books
 pub mod Pacing

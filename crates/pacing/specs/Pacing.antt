@@ -20,7 +20,7 @@ use Rattle.pacing.specs.declared.Next.the-variants.{Unset, At}
 use Rattle.pacing.specs.declared.SenderCongestionControl.{SenderCongestionControl}
 use Rattle.pacing.specs.declared.Paced.{Paced}
 use Rattle.pacing.specs.declared.Paced.the-variants.{Silent, Period, Refused}
-use Rattle.pacing.specs.Rate.{elapsed, estimate, increment, passes}
+use Rattle.rate.specs.Rate.{elapsed, estimate, increment, passes}
 use Rattle.pacing.specs.Period.{allowed, period}
 use Rattle.pacing.specs.Books.{kept, control}
 

@@ -2,7 +2,7 @@
 // estimated from the counts, and the period between two packets follows from the rates and the bandwidth mode.
 ghost use mathlib.Core.Path.{_≡_};
 ghost use Prim.Native.Nat.{_+_, _≤_, _<_, _^_, min, max};
-ghost use Rattle.pacing.specs.Rate.Laws.{Ranged};
+ghost use Rattle.rate.specs.Rate.Laws.{Ranged};
 ghost use Rattle.pacing.specs.Period.{allowed, period};
 ghost use Rattle.pacing.specs.Period.Laws.{ModeRanged};
 ghost use Rattle.pacing.specs.Books.{nextInRange, kept, new};
@@ -18,7 +18,6 @@ use rate::since;
 use refusals::Refusal;
 
 pub mod options;
-pub mod rate;
 
 // When the next estimate is due, in microseconds; unset until the first input.
 pub enum Next {

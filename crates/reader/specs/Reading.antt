@@ -36,6 +36,7 @@ unfoldable pub reads : ℕ → LossReader → Words
 reads zero r = items []
 reads (suc n) r = given (here r) (r .at) (reads n (moved r))
 
+-- one more than `more`, where the step at hand is some words wide
 abbrev pub tally : ℕ → ℕ → ℕ
 tally zero more = 0
 tally (suc w) more = suc more

@@ -16,9 +16,9 @@ use Prim.Native.Nat.{ℕ}
 use lib.Dec.{eqb}
 use lib.ListN.{length, take}
 use Rattle.numbers.specs.Modular.{seqs, dist}
-use Rattle.rules.specs.Losses.{LossRun, wordsOf, joined, endOf}
+use Rattle.rules.specs.Losses.{LossRun, wordsOf, joined, endOf, itemsOf}
 use Rattle.losses.specs.LossList.{over, entered}
-use Rattle.words.specs.Runs.{codeOf, wordsFor, runsAt, itemsOf}
+use Rattle.words.specs.Runs.{codeOf, wordsFor, runsAt}
 use Rattle.buffer.specs.declared.SendBuffer.{SendBuffer}
 use Rattle.buffer.specs.State.{put}
 use Rattle.report.specs.declared.Reported.{Reported}

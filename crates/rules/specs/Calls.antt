@@ -6,13 +6,13 @@
 --   answer c k s             a call's answer
 --   calls c ks s             the sender after any calls, refused ones included; answers   all that they answer
 --   storeAfter c k s store   the store after a call, and `stores` after any: only an accepted message writes
---   records a, units k a     the records of an answer; the units that an accepted run got
+--   records a, units k a     the records of an answer; the units that an accepted run got; allRecords, allUnits   those of any calls
 -- Assumes nothing.
 pub mod Laws
 use mathlib.Core.Bool.{Bool, cond}
-use mathlib.Core.List.{List, [], _∷_}
+use mathlib.Core.List.{List, [], _++_, _∷_}
 use mathlib.Core.Option.{Option}
-use Prim.Native.Nat.{ℕ}
+use Prim.Native.Nat.{ℕ, _+_}
 use lib.Dec.{eqb}
 use lib.ListN.{length}
 use Rattle.refusals.specs.declared.Refusal.{Refusal}
@@ -22,7 +22,7 @@ use Rattle.refusals.specs.Table.{numberOf}
 use Rattle.encapsulate.specs.Split.{count}
 use Rattle.rtt.specs.declared.Rtt.{Rtt}
 use Rattle.rules.specs.Ack.{ackOf, acknowledge, received, recovered, takeRtt}
-use Rattle.rules.specs.Losses.{Item, LossRun, Words, bad, items, joined, report, runsOf, wordsOf}
+use Rattle.rules.specs.Losses.{LossRun, itemsOf, joined, report, runsOf, wordsOf}
 use Rattle.rules.specs.Message.{begin, gone, goneBy, packetsOf, periodOf, push, stored}
 use Rattle.rules.specs.Numbers.{wire}
 use Rattle.rules.specs.Records.{Action}
@@ -55,10 +55,6 @@ pub record Answer : Type 0 where
   pub verdict : Verdict
   pub said : Said
   pub after : Sender
-
-unfoldable pub itemsOf : Words → List Item
-itemsOf (items is) = is
-itemsOf (bad index) = []
 
 -- 11 alone keeps the RTT that the ACK brought
 unfoldable pub withRtt : Call → Sender → Sender
@@ -149,3 +145,12 @@ records a = recordsOf (a .said)
 
 abbrev pub units : Call → Answer → ℕ
 units k a = unitsBy (a .verdict) k
+
+module _ (c : Settings) where
+  unfoldable pub allRecords : List Call → Sender → List Action
+  allRecords [] s = []
+  allRecords (k ∷ ks) s = records (answer c k s) ++ allRecords ks (answer c k s .after)
+
+  unfoldable pub allUnits : List Call → Sender → ℕ
+  allUnits [] s = 0
+  allUnits (k ∷ ks) s = units k (answer c k s) + allUnits ks (answer c k s .after)

@@ -1,7 +1,7 @@
 -- The definitions of this crate, and what they cite of the leaves, opened all at once: for figures and worked examples that computing closes.
 -- Assumes nothing.
 use Rattle.encapsulate.specs.Split as Split
-use Rattle.pacing.specs.Rate as Rate
+use Rattle.rate.specs.Rate as Rate
 use Rattle.pacing.specs.Period as Period
 use Rattle.pacing.specs.Books as PacingBooks
 use Rattle.pacing.specs.Pacing as Pacing
@@ -17,7 +17,6 @@ use Rattle.rules.specs.Run as Run
 use Rattle.rules.specs.Reports as Reports
 use Rattle.rules.specs.Refusals as Refusals
 use Rattle.rules.specs.Calls as Calls
-use Rattle.rules.specs.Promises as Promises
 
 unfoldable pub computes : Unit {0}
 unfolding Split.count Split.placeOf Rate.newMean Rate.estimate Period.period PacingBooks.kept Pacing.countFull Pacing.estimated
@@ -32,7 +31,7 @@ unfolding Split.count Split.placeOf Rate.newMean Rate.estimate Period.period Pac
     Run.extra Run.flushed Run.obey Run.others Run.turnBy Run.turn Run.run Reports.isFlushed Reports.hasPacketsToSend Reports.timeOf
     Reports.bufferedTime Reports.heldOf Reports.payloadOf Refusals.newVerdict Refusals.countIsFull Refusals.messageVerdict Refusals.badRtt
     Refusals.fullVerdict Refusals.ackVerdict Refusals.wordsVerdict Refusals.nakVerdict Refusals.runVerdict Refusals.liesVerdict
-    Refusals.payloadVerdict Calls.itemsOf Calls.withRtt Calls.left Calls.verdictOf Calls.after Calls.pushedBy Calls.saidBy Calls.answerBy
-    Calls.answer Calls.calls Calls.answers Calls.storeBy Calls.storeAfter Calls.stores Calls.recordsOf Calls.unitsBy Promises.allRecords
-    Promises.allUnits
+    Refusals.payloadVerdict Calls.withRtt Calls.left Calls.verdictOf Calls.after Calls.pushedBy Calls.saidBy Calls.answerBy
+    Calls.answer Calls.calls Calls.answers Calls.storeBy Calls.storeAfter Calls.stores Calls.recordsOf Calls.unitsBy Calls.allRecords
+    Calls.allUnits
 computes = tt

@@ -12,5 +12,5 @@ pub mod Refusals
 pub mod Calls
 pub mod Computing
 pub mod Figures
-pub mod Promises
 pub mod Examples
+pub mod Ends

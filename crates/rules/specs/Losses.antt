@@ -1,9 +1,10 @@
 -- Document 01, "Loss words" (the draft, Appendix A), and row 12 of "Refusal numbers".
 --   Item, Words, parse   the items of a report: one number, or a range by its two ends; or the index of the first bad item's first word
+--   itemsOf w            its items, none where one is bad
 --   LossKind, kindOf     "A number is Added if buffered and sent; else Ignored if its distance from next unsent is below 2^30; else Dropped."
 --   reach s m            how many numbers from m on are of m's kind, one after the other
 --   LossRun, endOf       a run of one kind and consecutive numbers, and its exclusive end
---   itemRuns s i         an item's runs, by the ends of its range: three always do (proofs/Losses.antt)
+--   itemRuns s i         an item's runs, by the ends of its range: three always do (crates/theorems, proofs/Losses.antt)
 --   runsOf s is          the runs of all items, in order; joined   those that meet made one: the answer
 --   report               the loss list after a report: "Added numbers enter the list once."
 -- Assumes nothing.
@@ -43,6 +44,10 @@ parse i (a ∷ b ∷ ws) =
 -- "or 512 for too many words, whatever else is bad"
 unfoldable pub wordsOf : List ℕ → Words
 wordsOf ws = cond (ltb 512 (length ws)) (bad 512) (parse 0 ws)
+
+abbrev pub itemsOf : Words → List Item
+itemsOf (items is) = is
+itemsOf (bad index) = []
 
 pub data LossKind : Type 0 where
   Added Ignored Dropped : LossKind

@@ -1,5 +1,5 @@
 -- The run on the lent areas. Document 01, "Run": "(now, budget p, draining) .. While budget remains, the first that applies". Rule 1 applies at
--- most once and first (crates/rules, Split), so it stands before the loop here.
+-- most once and first (crates/theorems, Split), so it stands before the loop here.
 --   act, turn         what a rule does, and the first that applies
 --   World, after      all that a run changes: books and areas, the records, their number, the budget left
 --   loop, run         the turns while budget remains; the run

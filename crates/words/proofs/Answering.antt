@@ -7,10 +7,10 @@ use Prim.Native.Nat.{ℕ, _+_, _*_, _≤_, _<_, zero-le}
 use native.Mathlib.Decide.{decLt}
 use native.Mathlib.Omega.{arith}
 use lib.ListN.{length, drop, drop-of-length-le}
-use Rattle.rules.specs.Losses.{Item, Words, items, bad, before, parse, wordsOf, LossRun, joined}
+use Rattle.rules.specs.Losses.{Item, Words, items, itemsOf, bad, before, parse, wordsOf, LossRun, joined}
 use Rattle.words.specs.Words.{stepAt, widthOf, itemOf}
 use Rattle.words.specs.Words.Laws.{parse-none, parse-some, words-many, words-few}
-use Rattle.words.specs.Runs.{itemRunsAt, runsAt, addAll, itemsOf}
+use Rattle.words.specs.Runs.{itemRunsAt, runsAt, addAll}
 use Rattle.words.specs.Runs.Laws.{addAll-joined, addAll-append}
 use Rattle.words.specs.Runs.Lent.{Holds, Written, Accepted, holds-none}
 

@@ -7,7 +7,6 @@
 --   stretchAt f n i m k the runs of k numbers from m on, at most i of them
 --   runsAt f n is       the runs of all items, three for each at most
 --   add rs q, addAll    a run more at the end: where the last run goes on into it the two are one
---   itemsOf w           the items of a report that is read as w
 -- Assumes nothing.
 pub mod Entering
 pub mod Laws
@@ -17,7 +16,7 @@ use mathlib.Core.List.{List, [], _∷_, _++_}
 use Prim.Native.Nat.{ℕ, zero, suc, _+_, _-_, _^_, min}
 use lib.Dec.{ltb}
 use Rattle.numbers.specs.Modular.{seqs, plus, dist}
-use Rattle.rules.specs.Losses.{Item, Words, items, bad, LossKind, Added, Ignored, Dropped, LossRun, kindBy, endOf, meets}
+use Rattle.rules.specs.Losses.{Item, LossKind, Added, Ignored, Dropped, LossRun, kindBy, endOf, meets}
 
 abbrev pub codeOf : LossKind → ℕ
 codeOf Added = 1
@@ -68,7 +67,3 @@ add (r ∷ p ∷ rs) q = r ∷ add (p ∷ rs) q
 unfoldable pub addAll : List LossRun → List LossRun → List LossRun
 addAll rs [] = rs
 addAll rs (q ∷ qs) = addAll (add rs q) qs
-
-abbrev pub itemsOf : Words → List Item
-itemsOf (items is) = is
-itemsOf (bad index) = []

@@ -3,8 +3,8 @@
 ghost use mathlib.Core.Path.{_≡_};
 ghost use Prim.Native.Nat.{_+_, _*_, _≤_, min};
 ghost use lib.ListN.{length};
-ghost use Rattle.rules.specs.Losses.{wordsOf, joined};
-ghost use Rattle.words.specs.Runs.{itemRunsAt, runsAt, itemsOf};
+ghost use Rattle.rules.specs.Losses.{wordsOf, joined, itemsOf};
+ghost use Rattle.words.specs.Runs.{itemRunsAt, runsAt};
 ghost use Rattle.words.specs.Runs.Laws.{Reaches};
 ghost use Rattle.words.specs.Runs.Lent.{Holds, goesOn, Pushed, Written, Accepted};
 use numbers::SeqNumber;

@@ -26,7 +26,7 @@ use Rattle.rules.specs.Sender.{wireSizes}
 use Rattle.rules.specs.Ack as rules
 use Rattle.rules.specs.Ack.{expect}
 use Rattle.rules.specs.Refusals.{badRtt, fullVerdict}
-use Rattle.rules.proofs.Packets.{sizes-drop}
+use Rattle.theorems.proofs.Packets.{sizes-drop}
 use Rattle.buffer.specs.declared.SendBuffer.{SendBuffer}
 use Rattle.buffer.specs.State.{State, state, view}
 use Rattle.buffer.specs.State.Stands.{Ready}

@@ -32,7 +32,7 @@ use Rattle.rules.specs.Ack.{expect}
 use Rattle.rules.specs.Books.Laws.{Kept, facts-kept}
 use Rattle.rules.specs.Refusals.{badRtt, fullVerdict, ackVerdict}
 use Rattle.rules.specs.Calls as calls
-use Rattle.rules.proofs.CallsKept.{takeRtt-kept}
+use Rattle.theorems.proofs.CallsKept.{takeRtt-kept}
 use Rattle.buffer.specs.declared.SendBuffer.{SendBuffer}
 use Rattle.buffer.specs.State.{State, state, view}
 use Rattle.buffer.specs.State.Stands.{Stands}

@@ -30,7 +30,7 @@ use Rattle.rules.specs.Numbers.Laws.{wire-below}
 use Rattle.rules.specs.Settings.{Settings, inRange, capacity}
 use Rattle.rules.specs.Sender.{Packet, Sender, sentOf, nothing, wireSizes}
 use Rattle.rules.specs.Books.Laws.{Kept, Sent, Unsent}
-use Rattle.rules.proofs.Packets.{all-at, sizes-drop}
+use Rattle.theorems.proofs.Packets.{all-at, sizes-drop}
 use Rattle.buffer.specs.State.{State, packetOf, packetsOf, lostOf}
 use Rattle.buffer.specs.State.View.{packets-length, packets-at}
 use Rattle.buffer.specs.State.Stands.{Stands}

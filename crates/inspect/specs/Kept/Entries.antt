@@ -23,7 +23,7 @@ use Rattle.ring.specs.Ring.{slotOf, packets}
 use Rattle.ring.specs.Ring.Laws.{packets-length, packets-at}
 use Rattle.rules.specs.Settings.{Settings}
 use Rattle.rules.specs.Books.{every, sentKept, unsentKept}
-use Rattle.rules.proofs.Frame.{and-l, and-r}
+use Rattle.theorems.proofs.Frame.{and-l, and-r}
 use Rattle.buffer.specs.declared.SendBuffer.{SendBuffer}
 use Rattle.buffer.specs.State.{packetOf}
 use Rattle.inspect.specs.Kept.{all, sentEntry, unsentEntry, entryKept, entriesKept}

@@ -20,7 +20,7 @@ use Rattle.ring.specs.Ring.Laws.{Placed, placed-facts, facts-placed}
 use Rattle.losses.specs.LossList.{keeps}
 use Rattle.rules.specs.Settings.{Settings, inRange, capacity}
 use Rattle.rules.specs.Sender.{wireSizes}
-use Rattle.rules.proofs.Frame.{and-l, and-r}
+use Rattle.theorems.proofs.Frame.{and-l, and-r}
 use Rattle.buffer.specs.declared.SendBuffer.{SendBuffer}
 use Rattle.buffer.specs.State.{state, packetsOf}
 use Rattle.buffer.specs.State.View.{packets-length}

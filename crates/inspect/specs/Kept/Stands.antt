@@ -37,7 +37,7 @@ use Rattle.rules.specs.Sender.{Packet, Sender, nothing, sentOf, wireSizes}
 use Rattle.rules.specs.Books as books
 use Rattle.rules.specs.Books.{every, sentKept, unsentKept, heldKept}
 use Rattle.rules.specs.Books.Laws.{Kept, Sent, Unsent, HeldIn, kept-facts}
-use Rattle.rules.proofs.CallsKept.{fresh-kept}
+use Rattle.theorems.proofs.CallsKept.{fresh-kept}
 use Rattle.buffer.specs.declared.Flushed.{Flushed}
 use Rattle.buffer.specs.declared.Flushed.the-variants.{Nothing, Held}
 use Rattle.buffer.specs.State.{State, state, packetOf, view, lostOf, fresh}

@@ -19,7 +19,7 @@ use borrow.Author.Tests.{lt-ltb, le-ltb, ltb-true, ltb-false, eq-eqb, ne-eqb}
 use Rattle.rules.specs.Sender as rules
 use Rattle.rules.specs.Losses as losses
 use Rattle.rules.specs.Books.Laws.{Ascends}
-use Rattle.rules.proofs.Lists.{insert-ascends}
+use Rattle.theorems.proofs.Lists.{insert-ascends}
 
 unfoldable pub nearer : ℕ → List ℕ → List ℕ
 nearer n [] = []

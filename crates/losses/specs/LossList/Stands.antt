@@ -31,7 +31,7 @@ use Rattle.rules.specs.Numbers.Laws.{wire-below, distance-wire, distance-is-dis
 use Rattle.rules.specs.Sender as rules
 use Rattle.rules.specs.Losses as losses
 use Rattle.rules.specs.Books.Laws.{Ascends}
-use Rattle.rules.proofs.Lists.{widen, from-ascends}
+use Rattle.theorems.proofs.Lists.{widen, from-ascends}
 use Rattle.losses.specs.LossList.{staying, falling, entered}
 use Rattle.losses.specs.LossList.Laws.{staying-few}
 use Rattle.losses.specs.LossList.Runs.{nearer, run, from-all, from-from, nearer-from, entered-run, entered-ascends, entered-longer}

@@ -18,7 +18,7 @@ use Rattle.rules.specs.Settings.{Settings}
 use Rattle.rules.specs.Sender.{Packet, Sender, wireSizes}
 use Rattle.rules.specs.Message as rules
 use Rattle.rules.specs.Calls as said
-use Rattle.rules.proofs.Packets.{sizes-append}
+use Rattle.theorems.proofs.Packets.{sizes-append}
 use Rattle.buffer.specs.State.{State}
 use Rattle.buffer.specs.State.Stands.{Stands}
 use Rattle.message.specs.Message.{World, roomed, appended, pushOne, pushes, begun, opened, message}

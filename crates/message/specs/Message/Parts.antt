@@ -19,7 +19,7 @@ use Rattle.ring.specs.Ring.Laws.{Placed}
 use Rattle.rules.specs.Settings.{Settings}
 use Rattle.rules.specs.Sender.{Sender, wireSizes}
 use Rattle.rules.specs.Books.Laws.{Kept}
-use Rattle.rules.proofs.Packets.{sizes-drop}
+use Rattle.theorems.proofs.Packets.{sizes-drop}
 use Rattle.buffer.specs.declared.SendBuffer.{SendBuffer}
 use Rattle.buffer.specs.State.{State, view, packetsOf, put}
 use Rattle.buffer.specs.State.Facts.{stands-facts, stands-entry}

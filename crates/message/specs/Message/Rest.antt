@@ -27,7 +27,7 @@ use Rattle.rules.specs.Settings.{Settings, capacity, storeSize}
 use Rattle.rules.specs.Sender.{Packet, Sender, wireSizes}
 use Rattle.rules.specs.Books.Laws.{Kept}
 use Rattle.rules.specs.Message as rules
-use Rattle.rules.proofs.MessageKept.{room-kept, room-fits, append-kept, packets-unsent}
+use Rattle.theorems.proofs.MessageKept.{room-kept, room-fits, append-kept, packets-unsent}
 use Rattle.buffer.specs.State.{State, state, view}
 use Rattle.buffer.specs.State.Facts.{stands-facts}
 use Rattle.buffer.specs.State.Stands.{Stands}

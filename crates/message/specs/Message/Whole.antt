@@ -14,8 +14,8 @@ use Rattle.encapsulate.specs.Split.Laws.{Sized}
 use Rattle.rules.specs.Settings.{Settings, storeSize}
 use Rattle.rules.specs.Sender.{Sender}
 use Rattle.rules.specs.Books.Laws.{Kept}
-use Rattle.rules.proofs.MessageKept.{numbered-fields, sizes-message}
-use Rattle.rules.proofs.RunKept.{same-kept}
+use Rattle.theorems.proofs.MessageKept.{numbered-fields, sizes-message}
+use Rattle.theorems.proofs.RunKept.{same-kept}
 use Rattle.buffer.specs.declared.SendBuffer.{SendBuffer}
 use Rattle.buffer.specs.State.{State, state}
 use Rattle.buffer.specs.State.Facts.{stands-facts}

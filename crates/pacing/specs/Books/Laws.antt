@@ -12,8 +12,8 @@ use Rattle.pacing.specs.declared.options.LiveBandwidthMode.{LiveBandwidt
 use Rattle.pacing.specs.declared.Next.{Next}
 use Rattle.pacing.specs.declared.Next.the-variants.{Unset, At}
 use Rattle.pacing.specs.declared.SenderCongestionControl.{SenderCongestionControl}
-use Rattle.pacing.specs.Rate.{inRange}
-use Rattle.pacing.specs.Rate.Laws.{Ranged, inRange-ranged, ranged-inRange}
+use Rattle.rate.specs.Rate.{inRange}
+use Rattle.rate.specs.Rate.Laws.{Ranged, inRange-ranged, ranged-inRange}
 use Rattle.pacing.specs.Period.{modeInRange}
 use Rattle.pacing.specs.Period.Laws.{ModeRanged, modeInRange-ranged, ranged-modeInRange}
 use Rattle.pacing.specs.Books.{nextInRange, kept, fresh}

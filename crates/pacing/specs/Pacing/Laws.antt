@@ -19,8 +19,8 @@ use Rattle.pacing.specs.declared.Next.{Next}
 use Rattle.pacing.specs.declared.Next.the-variants.{Unset, At}
 use Rattle.pacing.specs.declared.SenderCongestionControl.{SenderCongestionControl}
 use Rattle.pacing.specs.declared.Paced.the-variants.{Silent, Period}
-use Rattle.pacing.specs.Rate.{elapsed, estimate, passes}
-use Rattle.pacing.specs.Rate.Laws.{estimate-ranged, increment-ranged}
+use Rattle.rate.specs.Rate.{elapsed, estimate, passes}
+use Rattle.rate.specs.Rate.Laws.{estimate-ranged, increment-ranged}
 use Rattle.pacing.specs.Books.{kept}
 use Rattle.pacing.specs.Books.Laws.{Kept, kept-facts, facts-kept}
 use Rattle.pacing.specs.Pacing.{due, since, countFull, estimated, movedAt, moved, added, after, sndPeriod, input, onInput}

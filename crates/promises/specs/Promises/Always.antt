@@ -20,12 +20,12 @@ use Rattle.rules.specs.Books.Laws.{Kept, kept-facts}
 use Rattle.rules.specs.Calls as rules
 use Rattle.rules.specs.Refusals.{newVerdict}
 use Rattle.rules.specs.Reports.{isFlushed, hasPacketsToSend, bufferedPackets, bufferedBytes, bufferedTime}
-use Rattle.rules.specs.Promises.{Given, AllGiven, DemandThree}
+use Rattle.theorems.specs.Promises.{Given, AllGiven, DemandThree}
 use Rattle.rules.specs.Message.{stored}
-use Rattle.rules.proofs.CallsKept.{answer-kept}
-use Rattle.rules.proofs.Store.{written-length}
-use Rattle.rules.proofs.Theorems as theorems
-use Rattle.rules.proofs.Theorems.{books-kept}
+use Rattle.theorems.proofs.CallsKept.{answer-kept}
+use Rattle.theorems.proofs.Store.{written-length}
+use Rattle.theorems.proofs.Theorems as theorems
+use Rattle.theorems.proofs.Theorems.{books-kept}
 use Rattle.encapsulate.specs.Split.{count}
 use Rattle.refusals.specs.declared.Verdict.{Verdict}
 use Rattle.buffer.specs.declared.Settings as code

@@ -22,14 +22,14 @@ use Rattle.rules.specs.Books.Laws.{Kept, facts-kept}
 use Rattle.rules.specs.Refusals.{wordsVerdict, nakVerdict}
 use Rattle.rules.specs.Calls as calls
 use Rattle.rules.specs.Losses as rules
-use Rattle.rules.specs.Losses.{Item, Words, items, bad, LossKind, Added, Ignored, Dropped, LossRun, wordsOf, runsOf, joined, endOf, enterBy, enterAll}
-use Rattle.rules.proofs.Entering as entering
+use Rattle.rules.specs.Losses.{Item, Words, items, itemsOf, bad, LossKind, Added, Ignored, Dropped, LossRun, wordsOf, runsOf, joined, endOf, enterBy, enterAll}
+use Rattle.theorems.proofs.Entering as entering
 use Rattle.losses.specs.LossList.{over}
 use Rattle.losses.specs.LossList.Laws.{take-over, length-over}
 use Rattle.losses.specs.LossList.Stands as losses
 use Rattle.losses.specs.LossList.Stands.{stands-length, stands-entered, stands-grows}
 use Rattle.losses.specs.LossList.Stands.Books.{ascends-few}
-use Rattle.words.specs.Runs.{codeOf, wordsFor, itemsOf}
+use Rattle.words.specs.Runs.{codeOf, wordsFor}
 use Rattle.words.specs.Runs.Laws.{words-numbers, answer-is}
 use Rattle.words.specs.Runs.Lent.{Holds}
 use Rattle.words.specs.Runs.Entering.{Inside, runs-inside, joined-inside, enterAll-joined, count-is}
@@ -145,11 +145,6 @@ pub record Answers (c : Settings) (st : State) (out : List ℕ) (l : Left) (a : 
   pub holds : Holds (l .answer .runs) runs out (l .out)
   pub stands : Stands c (state (l .answer .buffer) (st .ring) (l .lost)) (a .after)
 
-items-same : (w : Words) → calls.itemsOf w ≡ itemsOf w
-unfolding calls.itemsOf
-items-same (items is) = refl
-items-same (bad index) = refl
-
 -- "Room needed: three per item"
 words-fine : (w : Words) (room : ℕ) → w ≡ items (itemsOf w) → 3 * length (itemsOf w) ≤ room → wordsVerdict w room ≡ Accepted
 unfolding wordsVerdict
@@ -164,7 +159,7 @@ module _ {c : Settings} {st : State} {s : Sender} (S : Stands c st s) (K : Kept 
 
   pub add-is : Answers c st out (add (st .books) ws (st .lost) out) (calls.answer c (calls.nak ws room) s)
   unfolding add calls.answer calls.answerBy calls.saidBy calls.after
-  add-is = rw (accepted, items-same (wordsOf ws)) (record {
+  add-is = rw accepted (record {
     verdict = refl;
     runs = joined (runsOf s (itemsOf (wordsOf ws)));
     said = refl;

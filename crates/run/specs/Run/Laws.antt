@@ -18,9 +18,9 @@ use Rattle.rules.specs.Books.Laws.{Kept}
 use Rattle.rules.specs.Run as Rules
 use Rattle.rules.specs.Run.{Turn, earliest, orHere}
 use Rattle.rules.specs.Run.Laws.{isDue}
-use Rattle.rules.proofs.Frame.{and-r}
-use Rattle.rules.proofs.None.{due-some}
-use Rattle.rules.proofs.RunKept.{first-kept}
+use Rattle.theorems.proofs.Frame.{and-r}
+use Rattle.theorems.proofs.None.{due-some}
+use Rattle.theorems.proofs.RunKept.{first-kept}
 use Rattle.buffer.specs.State.{State}
 use Rattle.buffer.specs.State.Stands.{Stands}
 use Rattle.buffer.specs.State.Reports.{ltb-add}

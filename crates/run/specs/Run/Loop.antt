@@ -19,11 +19,11 @@ use Rattle.rules.specs.Run as Rules
 use Rattle.rules.specs.Run.{Turn, Result, others, late}
 use Rattle.rules.specs.Run.Laws as rules
 use Rattle.rules.specs.Run.Laws.{Paid, stop, one, two}
-use Rattle.rules.proofs.Frame.{late-le}
-use Rattle.rules.proofs.Room.{split-room}
-use Rattle.rules.proofs.RunKept.{others-kept, dropped-kept}
-use Rattle.rules.proofs.Sends.{obey-paid}
-use Rattle.rules.proofs.Split.{loop-end, loop-on}
+use Rattle.theorems.proofs.Frame.{late-le}
+use Rattle.theorems.proofs.Room.{split-room}
+use Rattle.theorems.proofs.RunKept.{others-kept, dropped-kept}
+use Rattle.theorems.proofs.Sends.{obey-paid}
+use Rattle.theorems.proofs.Split.{loop-end, loop-on}
 use Rattle.buffer.specs.State.{State}
 use Rattle.buffer.specs.State.Stands.{Stands, Ready}
 use Rattle.buffer.specs.State.View.{packets-length}

@@ -18,7 +18,7 @@ use lib.ListN.{length}
 use borrow.Author.Tests.{ltb-true, eqb-true}
 use Rattle.rules.specs.Settings.{Settings}
 use Rattle.rules.specs.Run.{late}
-use Rattle.rules.proofs.Frame.{and-r, late-le}
+use Rattle.theorems.proofs.Frame.{and-r, late-le}
 use Rattle.buffer.specs.declared.SendBuffer.{SendBuffer}
 use Rattle.buffer.specs.State.{State, state, packetsOf}
 use Rattle.buffer.specs.State.Facts.{stands-facts}

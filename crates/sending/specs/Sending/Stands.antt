@@ -31,7 +31,7 @@ use Rattle.rules.specs.Books.Laws.{Ascends, Kept}
 use Rattle.rules.specs.Records.{Kind, Send, ByTime, ByLoss, Action, sendRecord, dropRecord}
 use Rattle.rules.specs.Run as Rules
 use Rattle.rules.specs.Run.{Turn}
-use Rattle.rules.proofs.Frame.{and-r}
+use Rattle.theorems.proofs.Frame.{and-r}
 use Rattle.buffer.specs.State.{State, packetOf, packetsOf, view, lostOf}
 use Rattle.buffer.specs.State.Stands.{Stands}
 use Rattle.buffer.specs.State.View.{packets-length, packets-at, packets-set, places-set}

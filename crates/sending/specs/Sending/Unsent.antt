@@ -16,8 +16,8 @@ use Rattle.numbers.specs.declared.SeqNumber.{SeqNumber}
 use Rattle.numbers.specs.Modular.{seqs, plus}
 use Rattle.rules.specs.Sender.{Sender, end}
 use Rattle.rules.specs.Run as Rules
-use Rattle.rules.proofs.Frame.{and-r}
-use Rattle.rules.proofs.RunKept.{first-kept}
+use Rattle.theorems.proofs.Frame.{and-r}
+use Rattle.theorems.proofs.RunKept.{first-kept}
 use Rattle.buffer.specs.declared.SendBuffer.{SendBuffer}
 use Rattle.buffer.specs.State.{State, state}
 use Rattle.buffer.specs.State.Stands.{Stands}

@@ -23,8 +23,8 @@ use Rattle.rules.specs.Numbers.{wire, distance}
 use Rattle.rules.specs.Numbers.Laws.{wire-below, distance-is-dist}
 use Rattle.rules.specs.Sender.{Sender, sentOf}
 use Rattle.rules.specs.Losses as rules
-use Rattle.rules.specs.Losses.{Item, Words, items, bad, before, isRange, parse, wordsOf, LossKind, Added, Ignored, Dropped, LossRun, kindBy, kindOf, reach, stretch, itemRuns, runsOf, endOf, sameKind, meets, glue, joined}
-use Rattle.words.specs.Runs.{codeOf, kindAt, reachBy, reachAt, stretchAt, itemRunsAt, runsAt, merged, add, addAll, itemsOf}
+use Rattle.rules.specs.Losses.{Item, Words, items, itemsOf, bad, before, isRange, parse, wordsOf, LossKind, Added, Ignored, Dropped, LossRun, kindBy, kindOf, reach, stretch, itemRuns, runsOf, endOf, sameKind, meets, glue, joined}
+use Rattle.words.specs.Runs.{codeOf, kindAt, reachBy, reachAt, stretchAt, itemRunsAt, runsAt, merged, add, addAll}
 
 pub record Sends (s : Sender) (f n : ℕ) : Type 0 where
   pub front : f ≡ wire (s .front)

@@ -16,8 +16,8 @@ use lib.Seq.{append-snoc, getD-append-add}
 use borrow.Author.Tests.{lt-ltb, le-ltb}
 use Rattle.losses.specs.LossList.{over}
 use Rattle.losses.specs.LossList.Laws.{set-over}
-use Rattle.rules.specs.Losses.{items, wordsOf, LossKind, Added, Ignored, Dropped, LossRun, endOf, sameKind, meets}
-use Rattle.words.specs.Runs.{codeOf, wordsFor, merged, add, addAll, itemsOf}
+use Rattle.rules.specs.Losses.{items, itemsOf, wordsOf, LossKind, Added, Ignored, Dropped, LossRun, endOf, sameKind, meets}
+use Rattle.words.specs.Runs.{codeOf, wordsFor, merged, add, addAll}
 use Rattle.words.specs.Runs.Laws.{end-merged}
 
 pub record Holds (len : ℕ) (rs : List LossRun) (e l : List ℕ) : Type 0 where

@@ -18,7 +18,7 @@ use Rattle.rules.specs.Numbers.{wire}
 use Rattle.rules.specs.Numbers.Laws.{wire-below}
 use Rattle.rules.specs.Books as books
 use Rattle.rules.specs.Books.Laws.{Ascends}
-use Rattle.rules.proofs.Lists.{widen}
+use Rattle.theorems.proofs.Lists.{widen}
 use Rattle.losses.specs.LossList.{inOrder, descends}
 use Rattle.losses.specs.LossList.Runs.{ascends-snoc}
 use Rattle.losses.specs.LossList.Stands.{keyOf, farFirst, Stands, seen, key-wire, wire-plus, far-snoc}

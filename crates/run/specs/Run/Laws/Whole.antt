@@ -16,9 +16,9 @@ use Rattle.rules.specs.Records.{Action, sends}
 use Rattle.rules.specs.Run as Rules
 use Rattle.rules.specs.Run.{Turn, Result, others, late}
 use Rattle.rules.specs.Run.Laws as rules
-use Rattle.rules.proofs.Frame.{late-le}
-use Rattle.rules.proofs.RunKept.{others-kept, dropped-kept}
-use Rattle.rules.proofs.Split.{run-is, loop-end, loop-on}
+use Rattle.theorems.proofs.Frame.{late-le}
+use Rattle.theorems.proofs.RunKept.{others-kept, dropped-kept}
+use Rattle.theorems.proofs.Split.{run-is, loop-end, loop-on}
 use Rattle.buffer.specs.State.{State}
 use Rattle.buffer.specs.State.Stands.{Stands}
 use Rattle.sending.specs.Sending.{Turned, dropped, written}

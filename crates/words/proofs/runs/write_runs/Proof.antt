@@ -3,8 +3,8 @@
 use native.Mathlib.Omega.{arith}
 use Prim.Native.Nat.{_+_, _-_, _<_, _≤_}
 use lib.ListN.{length}
-use Rattle.rules.specs.Losses.{wordsOf, joined}
-use Rattle.words.specs.Runs.{runsAt, itemsOf}
+use Rattle.rules.specs.Losses.{wordsOf, joined, itemsOf}
+use Rattle.words.specs.Runs.{runsAt}
 use Rattle.words.proofs.Answering.{Answering, answering-none, some, answering-room, answering-within, answering-step, answering-all}
 use borrow.Author.Needs.{needs}
 use Rattle.words.proofs.runs.write_runs.Statement.{statement}

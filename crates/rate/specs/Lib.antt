@@ -1,0 +1,2 @@
+pub mod Rate
+pub mod Examples
