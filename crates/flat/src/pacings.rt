@@ -5,7 +5,7 @@ ghost use Rattle.flat.specs.Senders.{nextOf, begunFrom, timeFrom, modeOf
 use pacing::Next;
 use pacing::SenderCongestionControl;
 use pacing::options::LiveBandwidthMode;
-use pacing::rate::RateEstimation;
+use rate::RateEstimation;
 
 // What pacing keeps. Modes: 0 input, 1 estimated, 2 maximum, 3 unlimited; a number that a mode has no use for is 0. `begun` is 1 from the first
 // input on; before it `next` is 0.

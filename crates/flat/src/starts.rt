@@ -10,7 +10,7 @@ use crate::senders::FlatSender;
 use crate::senders::HeldPacket;
 use crate::senders::flat_from;
 use buffer::Settings;
-use pacing::rate::RateEstimation;
+use rate::RateEstimation;
 use ring::Ring;
 use rtt::Rtt;
 use sender::Made;

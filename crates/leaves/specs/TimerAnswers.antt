@@ -10,8 +10,8 @@ use Rattle.timer.specs.declared.TimerSet.{TimerSet}
 use Rattle.timer.specs.declared.TimerSet.the-variants as set
 use Rattle.timer.specs.declared.TimerChecked.{TimerChecked}
 use Rattle.timer.specs.declared.TimerChecked.the-variants as checked
+use Rattle.flat_timers.specs.TimersAnswers.{told}
 use Rattle.leaves.specs.declared.of_timer.TimerAnswer.{TimerAnswer}
-use Rattle.srt_sender.specs.TimersAnswers.{told}
 
 abbrev pub timerAnswer : ℕ → ℕ → Timer → TimerAnswer
 timerAnswer refusal periods timer = record { refusal = refusal; periods = periods; timer = timer }

@@ -7,7 +7,7 @@ use flat::pacings::pacing_from;
 use pacing::Made;
 use pacing::Paced;
 use pacing::SenderCongestionControl;
-use pacing::rate::RateEstimation;
+use rate::RateEstimation;
 
 // Pacing after the call, and the new period in microseconds, 0 for none: a period is at least 1.
 #[repr(C)]

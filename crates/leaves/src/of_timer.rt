@@ -1,11 +1,11 @@
 // One timer.
 ghost use mathlib.Core.Path.{_≡_};
 ghost use Rattle.timer.specs.Timer.{made, periodOf, nextInstant, reset, setPeriod, checkExpired};
-ghost use Rattle.srt_sender.specs.TimersAnswers.{blank, nanoseconds};
+ghost use Rattle.flat_timers.specs.TimersAnswers.{blank, nanoseconds};
 ghost use Rattle.leaves.specs.TimerAnswers.{timerSet, timerChecked};
-use srt_sender::of_timers::NanosecondsAnswer;
-use srt_sender::of_timers::nanoseconds;
-use srt_sender::of_timers::told;
+use flat_timers::NanosecondsAnswer;
+use flat_timers::nanoseconds;
+use flat_timers::told;
 use timer::Timer;
 use timer::TimerChecked;
 use timer::TimerSet;

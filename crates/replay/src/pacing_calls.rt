@@ -4,7 +4,7 @@ use flat::pacings::FlatPacing;
 use leaves::of_pacing::PacingAnswer;
 use leaves::of_pacing::leaves_pacing_new;
 use leaves::of_pacing::leaves_pacing_on_input;
-use pacing::rate::RateEstimation;
+use rate::RateEstimation;
 use stored::Record;
 use stored::low;
 

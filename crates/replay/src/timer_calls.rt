@@ -1,5 +1,6 @@
 // The calls of one timer.
 use crate::show;
+use flat_timers::NanosecondsAnswer;
 use leaves::of_timer::TimerAnswer;
 use leaves::of_timer::leaves_timer_check_expired;
 use leaves::of_timer::leaves_timer_new;
@@ -7,7 +8,6 @@ use leaves::of_timer::leaves_timer_next_instant;
 use leaves::of_timer::leaves_timer_period;
 use leaves::of_timer::leaves_timer_reset;
 use leaves::of_timer::leaves_timer_set_period;
-use srt_sender::of_timers::NanosecondsAnswer;
 use stored::Record;
 use timer::Timer;
 

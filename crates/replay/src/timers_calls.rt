@@ -2,8 +2,8 @@
 use crate::show;
 use crate::timer_calls::show_nanoseconds;
 use crate::timer_calls::show_timer;
+use flat_timers::TimersAnswer;
 use rtt::Rtt;
-use srt_sender::of_timers::TimersAnswer;
 use srt_sender::of_timers::srt_entry_timers_check_full_ack;
 use srt_sender::of_timers::srt_entry_timers_check_nak;
 use srt_sender::of_timers::srt_entry_timers_check_peer_idle_timeout;

@@ -1,4 +1,3 @@
 pub mod Entries
 pub mod Examples
 pub mod Packet
-pub mod TimersAnswers

@@ -11,6 +11,9 @@ use Rattle.timers.specs.declared.Timers.{Timers}
 use Rattle.timers.specs.Timers as T
 use Rattle.checks.specs.Wake.{nextTimer}
 use Rattle.checks.specs.Checks.{checkSnd, checkFullAck, checkNak, checkStatistics, checkPeerIdleTimeout}
+use Rattle.flat_timers.specs.declared.TimersAnswer.{TimersAnswer}
+use Rattle.flat_timers.specs.declared.NanosecondsAnswer.{NanosecondsAnswer}
+use Rattle.flat_timers.specs.TimersAnswers.{nanoseconds, blanks, timersSet, timersChecked, nextMessage}
 use Rattle.buffer.specs.declared.Settings.{Settings}
 use Rattle.sender.specs.Calls.{made}
 use Rattle.flat.specs.declared.senders.FlatSender.{FlatSender}
@@ -20,11 +23,8 @@ use Rattle.flat.specs.declared.questions.PayloadAnswer.{PayloadAnswer}
 use Rattle.flat.specs.declared.questions.ReportsAnswer.{ReportsAnswer}
 use Rattle.flat.specs.Senders.{modeOf}
 use Rattle.flat.specs.Replies.{newOf, payloadOf, reportsOf, fullOf, rttOf}
-use Rattle.srt_sender.specs.declared.of_timers.TimersAnswer.{TimersAnswer}
-use Rattle.srt_sender.specs.declared.of_timers.NanosecondsAnswer.{NanosecondsAnswer}
 use Rattle.srt_sender.specs.Entries.{Messaged, message, ack, Reported, nak, Ran, run, payload, reports}
 use Rattle.srt_sender.specs.Packet.{placeOf}
-use Rattle.srt_sender.specs.TimersAnswers.{nanoseconds, blanks, timersSet, timersChecked, nextMessage}
 
 -- x and y coincide, where both are z
 abbrev Coincide : {A : Type 0} → A → Type 0

@@ -5,9 +5,11 @@
 --   new-started        what the entry of a new sender gives, in lent areas, is the fresh sender of `promises`
 --   host-always        so after any entries from there the host's numbers and areas stand for the rules' sender after the same calls
 --   host-answers       and the next call answers as the rules do, with every word of its lent list
---   refused-enters     "A refusal changes nothing lent or kept": every number that the host keeps, and every lent element; 11 apart
+--   refused-enters     "A refusal changes nothing lent or kept": every number that the host keeps, every word of the areas and of the store; 11 apart
+--   refused-lists      and every element of the lent list
 -- Assumes nothing.
 use mathlib.Core.Path.{_≡_, refl, sym, ap, _∙_, subst}
+use mathlib.Core.Bool.{Bool}
 use mathlib.Core.List.{List, [], _∷_, map}
 use Prim.Native.Nat.{ℕ, _*_, _≤_}
 use lib.Dec.{eqb}
@@ -54,7 +56,7 @@ use Rattle.flat.specs.Replies.Laws.{message-after, nak-after, run-after}
 use Rattle.promises.specs.Promises as calls
 use Rattle.promises.specs.Promises.{World, Call, ruleOf, Fits, AllFit, after, worlds, Same, started}
 use Rattle.promises.specs.Promises.Always.{Stood, always, answers}
-use Rattle.promises.specs.Promises.Refusals.{verdictIn, refused-stays}
+use Rattle.promises.specs.Promises.Refusals.{verdictIn, refused-stays, refused-list}
 use Rattle.srt_sender.specs.Entries.{booksOf, message, ack, nak, run}
 
 pub record Hub : Type 0 where
@@ -192,3 +194,11 @@ module _ (r : Refusal) (o : numberOf r ≡ 11 → ⊥) (h : Hub) where
   refused-enters (calls.nak words list) e = same (calls.nak words list) _ (nak-given _ e) e
   refused-enters (calls.run now p draining list) e = same (calls.run now p draining list) _ (run-given _ e) e
   refused-enters (calls.payload n) e = refl
+
+module _ (r : Refusal) (h : Hub) where
+  pub refused-lists :
+      ((words list : List ℕ) → verdictIn (calls.nak words list) (worldOf h) ≡ Refused r → nak (h .kept) words (h .ring) (h .lost) list .out ≡ list)
+      × ((now p : ℕ) (draining : Bool) (list : List ℕ) → verdictIn (calls.run now p draining list) (worldOf h) ≡ Refused r
+      → run (h .kept) now p draining (h .ring) (h .lost) list .out ≡ list)
+  unfolding nak run
+  refused-lists = refused-list (worldOf h) r

@@ -24,8 +24,8 @@ use Rattle.checks.specs.declared.TimersChecked.{TimersChecked}
 use Rattle.checks.specs.declared.TimersChecked.the-variants as checked
 use Rattle.checks.specs.declared.wake.NextMessage.{NextMessage}
 use Rattle.checks.specs.declared.wake.NextMessage.the-variants.{Unknown, At}
-use Rattle.srt_sender.specs.declared.of_timers.TimersAnswer.{TimersAnswer}
-use Rattle.srt_sender.specs.declared.of_timers.NanosecondsAnswer.{NanosecondsAnswer}
+use Rattle.flat_timers.specs.declared.TimersAnswer.{TimersAnswer}
+use Rattle.flat_timers.specs.declared.NanosecondsAnswer.{NanosecondsAnswer}
 
 abbrev pub told : Elapsed → ℕ
 told Nothing = 0

@@ -1,9 +1,9 @@
--- `srt_sender::of_timers::timers_checked` meets its contract: each case is its case of `timersChecked`.
+-- `flat_timers::timers_checked` meets its contract: each case is its case of `timersChecked`.
 -- Assumes nothing.
-use Rattle.srt_sender.specs.TimersAnswers.{timersChecked}
+use Rattle.flat_timers.specs.TimersAnswers.{timersChecked}
 use borrow.Author.Needs.{needs}
-use Rattle.srt_sender.proofs.of_timers.timers_checked.Statement.{statement}
-use Rattle.srt_sender.proofs.of_timers.timers_checked.Tie as tie
+use Rattle.flat_timers.proofs.timers_checked.Statement.{statement}
+use Rattle.flat_timers.proofs.timers_checked.Tie as tie
 
 enum-known-a : tie.Need-enum-known-a
 enum-known-a c = search needs

@@ -1,9 +1,9 @@
--- `srt_sender::of_timers::timers_set` meets its contract: each case is its case of `timersSet`.
+-- `flat_timers::timers_set` meets its contract: each case is its case of `timersSet`.
 -- Assumes nothing.
-use Rattle.srt_sender.specs.TimersAnswers.{timersSet}
+use Rattle.flat_timers.specs.TimersAnswers.{timersSet}
 use borrow.Author.Needs.{needs}
-use Rattle.srt_sender.proofs.of_timers.timers_set.Statement.{statement}
-use Rattle.srt_sender.proofs.of_timers.timers_set.Tie as tie
+use Rattle.flat_timers.proofs.timers_set.Statement.{statement}
+use Rattle.flat_timers.proofs.timers_set.Tie as tie
 
 enum-known-a : tie.Need-enum-known-a
 enum-known-a c = search needs

@@ -1,8 +1,8 @@
--- `srt_sender::of_timers::next_message` meets its contract: the test is the case of `nextMessage`.
+-- `flat_timers::next_message` meets its contract: the test is the case of `nextMessage`.
 -- Assumes nothing.
 use borrow.Author.Needs.{needs}
-use Rattle.srt_sender.proofs.of_timers.next_message.Statement.{statement}
-use Rattle.srt_sender.proofs.of_timers.next_message.Tie as tie
+use Rattle.flat_timers.proofs.next_message.Statement.{statement}
+use Rattle.flat_timers.proofs.next_message.Tie as tie
 
 returns : tie.Need-returns
 returns c = rw (c .if1 .taken)

@@ -1,9 +1,9 @@
--- `srt_sender::of_timers::nanoseconds` meets its contract: each case is its case of `nanoseconds`.
+-- `flat_timers::nanoseconds` meets its contract: each case is its case of `nanoseconds`.
 -- Assumes nothing.
-use Rattle.srt_sender.specs.TimersAnswers.{nanoseconds}
+use Rattle.flat_timers.specs.TimersAnswers.{nanoseconds}
 use borrow.Author.Needs.{needs}
-use Rattle.srt_sender.proofs.of_timers.nanoseconds.Statement.{statement}
-use Rattle.srt_sender.proofs.of_timers.nanoseconds.Tie as tie
+use Rattle.flat_timers.proofs.nanoseconds.Statement.{statement}
+use Rattle.flat_timers.proofs.nanoseconds.Tie as tie
 
 enum-known-a : tie.Need-enum-known-a
 enum-known-a c = search needs
