@@ -15,13 +15,13 @@ use Rattle.rules.specs.Losses.{wordsOf}
 use Rattle.rules.specs.Refusals.{wordsVerdict}
 use Rattle.report.specs.Report.{Left, add}
 use Rattle.sender.specs.declared.Sender.{Sender}
-use Rattle.sender.specs.Books.{Books, rulesOf, areasShort, judge}
+use Rattle.sender.specs.Books.{Books, judgeAreas}
 use Rattle.sender.specs.Calls.{senderOf, then}
 use Rattle.answers.specs.declared.Reported.{Reported}
 use Rattle.answers.specs.declared.Reported.the-variants.{Done, Refused}
 
 unfoldable pub nakVerdict : Books → List ℕ → ℕ → Verdict
-nakVerdict g ws room = then (judge (areasShort (rulesOf g) (length (g .ring)) (length (g .lost))) g) (wordsVerdict (wordsOf ws) (room / 3))
+nakVerdict g ws room = then (judgeAreas g) (wordsVerdict (wordsOf ws) (room / 3))
 
 pub record Naks : Type 0 where
   pub answer : Reported

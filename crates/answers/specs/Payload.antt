@@ -23,8 +23,8 @@ use Rattle.ring.specs.Ring.{slotOf}
 use Rattle.buffer.specs.declared.Flushed.{Flushed}
 use Rattle.buffer.specs.declared.Flushed.the-variants as flushed
 use Rattle.sender.specs.declared.Sender.{Sender}
-use Rattle.sender.specs.Books.{Books, judge}
-use Rattle.sender.specs.Calls.{shortFor, then}
+use Rattle.sender.specs.Books.{Books}
+use Rattle.sender.specs.Calls.{then, judgeWithStore}
 use Rattle.answers.specs.declared.Found.{Found}
 use Rattle.answers.specs.declared.Found.the-variants.{Held, Refused}
 
@@ -43,7 +43,7 @@ findIn s number ring =
     cond (ltb d (r .len)) (Held (record { place = slotOf r d * size; len = readE ring (slotOf r d) .len })) (flushedAt size number (s .buffer .flushed))
 
 unfoldable pub payloadVerdict : Books → ℕ → ℕ → Verdict
-payloadVerdict g n store = then (judge (shortFor g store) g) (when (leb (2 ^ 31) n) BadNumber Accepted)
+payloadVerdict g n store = then (judgeWithStore g store) (when (leb (2 ^ 31) n) BadNumber Accepted)
 
 unfoldable pub payload : Books → ℕ → List ℕ → Found
 payload g n store = answer Refused (payloadVerdict g n (length store)) (findIn (g .sender) n (g .ring))

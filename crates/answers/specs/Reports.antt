@@ -5,12 +5,11 @@
 -- Assumes nothing.
 pub mod Laws
 pub mod Stands
-use lib.ListN.{length}
 use Rattle.refusals.specs.Verdict.{answer}
 use Rattle.rules.specs.Reports.{timeOf}
 use Rattle.buffer.specs.State.{packetsOf}
 use Rattle.buffer.specs.State.Reports.{isFlushed, hasPacketsToSend}
-use Rattle.sender.specs.Books.{Books, rulesOf, areasShort, judge}
+use Rattle.sender.specs.Books.{Books, judgeAreas}
 use Rattle.answers.specs.declared.BufferReports.{BufferReports}
 use Rattle.answers.specs.declared.Told.{Told}
 use Rattle.answers.specs.declared.Told.the-variants.{Known, Refused}
@@ -27,4 +26,4 @@ reportsOf g =
     }
 
 unfoldable pub reports : Books → Told
-reports g = answer Refused (judge (areasShort (rulesOf g) (length (g .ring)) (length (g .lost))) g) (Known (reportsOf g))
+reports g = answer Refused (judgeAreas g) (Known (reportsOf g))

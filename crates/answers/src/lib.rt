@@ -65,9 +65,10 @@ fn judge_words(words: &[u32], room: usize) -> Verdict
 fn judge_nak(s: Sender, words: &[u32], ring: &[u64], lost: &[u32], room: usize) -> Verdict
     ensures { λ r. ⌜ r ≡ nakVerdict (books s (now (ring .entry)) (now (lost .entry))) (now (words .entry)) room ⌝ }
 {
-    let short = judging::areas_short(s.settings, ring.len(), lost.len());
-    let state = judging::judge(s, ring, lost, short);
-    judging::then(state, judge_words(words, room))
+    judging::then(
+        judging::judge_areas(s, ring, lost),
+        judge_words(words, room),
+    )
 }
 
 // A loss report; the runs of the answer go to `out`. Refuses BadStore, BadState, BadNak and NoRoom.
@@ -94,6 +95,7 @@ pub fn nak(s: Sender, words: &[u32], ring: &[u64], lost: &mut [u32], out: &mut [
     }
 }
 
+// A flushed payload, where the number is its own.
 fn held_at(size: usize, number: u32, n: SeqNumber, slot: usize, len: usize) -> Found
     requires { ⌜ (slot ≤ 8_192) × (size ≤ 1_456) ⌝ }
     ensures { λ r. ⌜ r ≡ heldAt size number n slot len ⌝ }
@@ -107,7 +109,7 @@ fn held_at(size: usize, number: u32, n: SeqNumber, slot: usize, len: usize) -> F
     Found::Refused(Refusal::NotHeld)
 }
 
-// Among the flushed one.
+// The flushed packet's payload, where one is held.
 fn flushed_at(size: usize, number: u32, flushed: Flushed) -> Found
     requires { ⌜ HeldFits size flushed ⌝ }
     ensures { λ r. ⌜ r ≡ flushedAt size number flushed ⌝ }
@@ -144,11 +146,8 @@ fn find(s: Sender, number: u32, ring: &[u64]) -> Found
 fn judge_payload(s: Sender, number: u32, ring: &[u64], lost: &[u32], store: usize) -> Verdict
     ensures { λ r. ⌜ r ≡ payloadVerdict (books s (now (ring .entry)) (now (lost .entry))) number store ⌝ }
 {
-    let c = s.settings;
-    let short = judging::areas_short(c, ring.len(), lost.len()) | judging::store_short(c, store);
-    let state = judging::judge(s, ring, lost, short);
     judging::then(
-        state,
+        judging::judge_with_store(s, ring, lost, store),
         refusals::when(0x8000_0000 <= number, Refusal::BadNumber, Verdict::Accepted),
     )
 }
@@ -167,8 +166,7 @@ pub fn payload(s: Sender, number: u32, ring: &[u64], lost: &[u32], store: &[u8])
 pub fn reports(s: Sender, ring: &[u64], lost: &[u32]) -> Told
     ensures { λ r. ⌜ r ≡ reports (books s (now (ring .entry)) (now (lost .entry))) ⌝ }
 {
-    let short = judging::areas_short(s.settings, ring.len(), lost.len());
-    match judging::judge(s, ring, lost, short) {
+    match judging::judge_areas(s, ring, lost) {
         Verdict::Refused(r) => Told::Refused(r),
         Verdict::Accepted => {
             let b = s.buffer;

@@ -7,7 +7,6 @@ pub mod Laws
 pub mod Stands
 use Prim.Native.Nat.{ℕ, _^_}
 use lib.Dec.{leb}
-use lib.ListN.{length}
 use Rattle.refusals.specs.declared.Refusal.the-variants.{BadNumber, BadRtt}
 use Rattle.refusals.specs.declared.Verdict.{Verdict}
 use Rattle.refusals.specs.declared.Verdict.the-variants.{Accepted}
@@ -21,13 +20,13 @@ use Rattle.ack.specs.Ack.{rttOf, update}
 use Rattle.sender.specs.declared.Sender.{Sender}
 use Rattle.sender.specs.declared.Acknowledged.{Acknowledged}
 use Rattle.sender.specs.declared.Acknowledged.the-variants as acknowledged-as
-use Rattle.sender.specs.Books.{Books, stateOf, rulesOf, areasShort, judge}
+use Rattle.sender.specs.Books.{Books, stateOf, rulesOf, judgeAreas}
 use Rattle.sender.specs.Calls.{senderOf, then}
 
 -- row 7, BadNumber: "a sequence number is 2^31 or more"; row 8, BadRtt: "mean or variance over its range"
 unfoldable pub ackVerdict : Books → ℕ → AckRtt → Verdict
 ackVerdict g n rtt =
-    then (judge (areasShort (rulesOf g) (length (g .ring)) (length (g .lost))) g)
+    then (judgeAreas g)
     (when (leb (2 ^ 31) n) BadNumber (when (badRtt (rttOf rtt)) BadRtt Accepted))
 
 abbrev pub acknowledged : Sender → Acked → Acknowledged

@@ -5,7 +5,7 @@
 --   areasShort c n m      n words are too few for the ring, or m for the loss list; where the settings are out of range the books are at fault
 --   storeShort c n        n bytes are too few for the store
 --   kept g                the book rules
---   judge short g         the two refusals
+--   judge short g         the two refusals; judgeAreas g   those of a call that is lent the ring and the loss list alone
 -- Assumes nothing.
 pub mod Laws
 pub mod Stands
@@ -13,6 +13,7 @@ use mathlib.Core.Bool.{Bool, not, _&&_, _||_}
 use mathlib.Core.List.{List}
 use Prim.Native.Nat.{ℕ, _*_}
 use lib.Dec.{ltb}
+use lib.ListN.{length}
 use Rattle.refusals.specs.declared.Refusal.the-variants.{BadStore, BadState}
 use Rattle.refusals.specs.declared.Verdict.{Verdict}
 use Rattle.refusals.specs.declared.Verdict.the-variants.{Accepted}
@@ -48,3 +49,6 @@ kept g = Buffer.kept (rulesOf g) (stateOf g) && Pacing.kept (g .sender .pacing)
 
 unfoldable pub judge : Bool → Books → Verdict
 judge short g = when short BadStore (when (not (kept g)) BadState Accepted)
+
+abbrev pub judgeAreas : Books → Verdict
+judgeAreas g = judge (areasShort (rulesOf g) (length (g .ring)) (length (g .lost))) g

@@ -3,7 +3,7 @@
 --   made c mode                  a sender asked for
 --   countIsFull s now n          row 6, for a message of n bytes
 --   then v w                     the tests w after the tests v
---   shortFor g n                 row 2, with a store of n bytes
+--   shortFor, judgeWithStore g n row 2, and rows 2 and 3, with a store of n bytes
 --   inputVerdict, messageVerdict refusals 4 to 6, and 2 to 6
 --   finished c p paced           what an accepted message answers, from what was pushed and what pacing answered
 --   Messages, area               the message's answer, and the lent areas at its end
@@ -68,8 +68,11 @@ then (Refused r) v = Refused r
 abbrev pub shortFor : Books → ℕ → Bool
 shortFor g store = areasShort (rulesOf g) (length (g .ring)) (length (g .lost)) || storeShort (rulesOf g) store
 
+abbrev pub judgeWithStore : Books → ℕ → Verdict
+judgeWithStore g store = judge (shortFor g store) g
+
 unfoldable pub messageVerdict : Books → ℕ → ℕ → ℕ → ℕ → Verdict
-messageVerdict g time now n store = then (judge (shortFor g store) g) (inputVerdict (g .sender) time now n)
+messageVerdict g time now n store = then (judgeWithStore g store) (inputVerdict (g .sender) time now n)
 
 abbrev pub messagedBy : Settings → Pushed → SenderCongestionControl → NewPeriod → Messaged
 messagedBy c p q n = messaged.Done (senderOf c (p .buffer) q) (record { made = p .made; removed = p .removed; bytes = p .bytes; period = n })

@@ -1,5 +1,5 @@
 // What refuses a call of the sender: document 01, "Refusal numbers", 2 to 8. The calls of the crates above ask for 2 and 3 here too.
-//   areas_short, store_short, kept, judge      2 and 3
+//   judge_areas, judge_with_store              2 and 3, of the areas that a call is lent
 //   then                                       further tests, where the first accept
 //   count_is_full, judge_input, judge_message  4 to 6, and all of a message's
 //   rtt_is_bad, judge_ack                      7 and 8, and all of an ACK's but 9 to 11
@@ -8,9 +8,9 @@ ghost use Prim.Native.Nat.{_≤_};
 ghost use Rattle.rules.specs.Refusals.{badRtt};
 ghost use Rattle.buffer.specs.State.{settingsOf};
 ghost use Rattle.ack.specs.Ack.{rttOf};
-ghost use Rattle.sender.specs.Books.{books, areasShort, storeShort, kept, judge};
+ghost use Rattle.sender.specs.Books.{books, areasShort, storeShort, kept, judge, judgeAreas};
 ghost use Rattle.sender.specs.Acks.{ackVerdict};
-ghost use Rattle.sender.specs.Calls.{then, countIsFull, inputVerdict, messageVerdict};
+ghost use Rattle.sender.specs.Calls.{then, judgeWithStore, countIsFull, inputVerdict, messageVerdict};
 ghost use Rattle.sender.specs.Calls.Laws.{Counting};
 use crate::Sender;
 use ack::AckRtt;
@@ -25,7 +25,7 @@ const BYTES_LIMIT: u64 = 1 << 62;
 const LENGTH_MOST: usize = 1_048_576;
 
 // Whether the ring's area or the loss list's is too short for the capacity.
-pub fn areas_short(c: Settings, ring: usize, lost: usize) -> bool
+fn areas_short(c: Settings, ring: usize, lost: usize) -> bool
     ensures { λ r. ⌜ r ≡ areasShort (settingsOf c) ring lost ⌝ }
 {
     if !inspect::settings_in_range(c) {
@@ -36,7 +36,7 @@ pub fn areas_short(c: Settings, ring: usize, lost: usize) -> bool
 }
 
 // Whether the store is too short for the capacity.
-pub fn store_short(c: Settings, store: usize) -> bool
+fn store_short(c: Settings, store: usize) -> bool
     ensures { λ r. ⌜ r ≡ storeShort (settingsOf c) store ⌝ }
 {
     if !inspect::settings_in_range(c) {
@@ -54,12 +54,29 @@ fn kept(s: Sender, ring: &[u64], lost: &[u32]) -> bool
 }
 
 // Refuses BadStore and BadState.
-pub fn judge(s: Sender, ring: &[u64], lost: &[u32], short: bool) -> Verdict
+fn judge(s: Sender, ring: &[u64], lost: &[u32], short: bool) -> Verdict
     ensures { λ r. ⌜ r ≡ judge short (books s (now (ring .entry)) (now (lost .entry))) ⌝ }
 {
     let broken = !kept(s, ring, lost);
     let state = refusals::when(broken, Refusal::BadState, Verdict::Accepted);
     refusals::when(short, Refusal::BadStore, state)
+}
+
+// Refuses BadStore and BadState, of a call that is lent the ring and the loss list alone.
+pub fn judge_areas(s: Sender, ring: &[u64], lost: &[u32]) -> Verdict
+    ensures { λ r. ⌜ r ≡ judgeAreas (books s (now (ring .entry)) (now (lost .entry))) ⌝ }
+{
+    let short = areas_short(s.settings, ring.len(), lost.len());
+    judge(s, ring, lost, short)
+}
+
+// Refuses BadStore and BadState, of a call that is lent a store of so many bytes, too.
+pub fn judge_with_store(s: Sender, ring: &[u64], lost: &[u32], store: usize) -> Verdict
+    ensures { λ r. ⌜ r ≡ judgeWithStore (books s (now (ring .entry)) (now (lost .entry))) store ⌝ }
+{
+    let c = s.settings;
+    let short = areas_short(c, ring.len(), lost.len()) | store_short(c, store);
+    judge(s, ring, lost, short)
 }
 
 // What the second tests come to, where the first accept.
@@ -115,9 +132,7 @@ pub(crate) fn judge_message(
 ) -> Verdict
     ensures { λ r. ⌜ r ≡ messageVerdict (books s (now (ring .entry)) (now (lost .entry))) time «now_» n store ⌝ }
 {
-    let c = s.settings;
-    let short = areas_short(c, ring.len(), lost.len()) | store_short(c, store);
-    match judge(s, ring, lost, short) {
+    match judge_with_store(s, ring, lost, store) {
         Verdict::Refused(r) => Verdict::Refused(r),
         Verdict::Accepted => judge_input(s, time, now_, n),
     }
@@ -142,8 +157,7 @@ pub(crate) fn judge_ack(
 ) -> Verdict
     ensures { λ r. ⌜ r ≡ ackVerdict (books s (now (ring .entry)) (now (lost .entry))) «ack_number» rtt ⌝ }
 {
-    let short = areas_short(s.settings, ring.len(), lost.len());
-    let state = judge(s, ring, lost, short);
+    let state = judge_areas(s, ring, lost);
     let times = refusals::when(rtt_is_bad(rtt), Refusal::BadRtt, Verdict::Accepted);
     let brought = refusals::when(0x8000_0000 <= ack_number, Refusal::BadNumber, times);
     then(state, brought)

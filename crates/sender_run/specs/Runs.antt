@@ -18,7 +18,7 @@ use Rattle.refusals.specs.Verdict.{when, answer}
 use Rattle.run.specs.Run as Run
 use Rattle.run.specs.Run.{World}
 use Rattle.sender.specs.declared.Sender.{Sender}
-use Rattle.sender.specs.Books.{Books, stateOf, rulesOf, areasShort, judge}
+use Rattle.sender.specs.Books.{Books, stateOf, rulesOf, judgeAreas}
 use Rattle.sender.specs.Calls.{senderOf, then}
 use Rattle.sender_run.specs.declared.Ran.{Ran}
 use Rattle.sender_run.specs.declared.Ran.the-variants as ran
@@ -29,7 +29,7 @@ roomFor p n = (min p n + 3) * 24
 -- "4 BadTime, a time is at or over its limit", "13 NoRoom, lent answer list too short"
 unfoldable pub runVerdict : Books → ℕ → ℕ → ℕ → Verdict
 runVerdict g now p out =
-    then (judge (areasShort (rulesOf g) (length (g .ring)) (length (g .lost))) g)
+    then (judgeAreas g)
     (when (leb (2 ^ 48) now) BadTime (when (ltb out (roomFor p (g .sender .buffer .ring .len))) NoRoom Accepted))
 
 pub record Runs : Type 0 where

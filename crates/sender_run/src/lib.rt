@@ -35,8 +35,7 @@ fn judge_run(s: Sender, ts_now: u64, budget: u32, ring: &[u64], lost: &[u32], ou
     ensures { λ r. ⌜ r ≡ runVerdict (books s (now (ring .entry)) (now (lost .entry))) «ts_now» budget out ⌝ }
 {
     let b = s.buffer;
-    let short = judging::areas_short(s.settings, ring.len(), lost.len());
-    let state = judging::judge(s, ring, lost, short);
+    let state = judging::judge_areas(s, ring, lost);
     let needed = room_for(budget, b.len());
     let room = refusals::when(out < needed, Refusal::NoRoom, Verdict::Accepted);
     let times = refusals::when(TIME_LIMIT <= ts_now, Refusal::BadTime, room);

@@ -5,11 +5,8 @@ use borrow.Author.Needs.{needs}
 use Rattle.answers.proofs.judge_nak.Statement.{statement}
 use Rattle.answers.proofs.judge_nak.Tie as tie
 
-areas-short-requires : tie.Need-areas-short-requires
-areas-short-requires c κs = search needs
-
-judge-requires : tie.Need-judge-requires
-judge-requires c κs = search needs
+judge-areas-requires : tie.Need-judge-areas-requires
+judge-areas-requires c κs = search needs
 
 judge-words-requires : tie.Need-judge-words-requires
 judge-words-requires c κs = search needs
@@ -19,11 +16,9 @@ then-requires c κs = search needs
 
 returns : tie.Need-returns
 returns c =
-    let v = c .before .before in
-    judge-nak-is _ _ _ _ _ _ _ (v .before .areas-short .ensures) (v .judge .ensures) (c .before .judge-words .ensures)
-    (c .then .ensures)
+    judge-nak-is _ _ _ _ _ _ (c .before .before .judge-areas .ensures) (c .before .judge-words .ensures) (c .then .ensures)
 
 pub judge-nak-spec : {M : Type 1} → statement M
 judge-nak-spec =
     tie.close
-    (tie.spec areas-short-requires judge-requires judge-words-requires then-requires returns)
+    (tie.spec judge-areas-requires judge-words-requires then-requires returns)

@@ -3,17 +3,14 @@
 use mathlib.Core.Path.{sym, _∙_}
 use Rattle.refusals.specs.Verdict.Laws.{answer-refused, answer-accepted}
 use Rattle.answers.specs.Reports.{reports}
-use Rattle.answers.specs.Reports.Laws.{judge-by, placed-by, reports-known}
+use Rattle.answers.specs.Reports.Laws.{placed-by, reports-known}
 use Rattle.sender.specs.Books.{books}
 use borrow.Author.Needs.{needs}
 use Rattle.answers.proofs.reports.Statement.{statement}
 use Rattle.answers.proofs.reports.Tie as tie
 
-areas-short-requires : tie.Need-areas-short-requires
-areas-short-requires c κs = search needs
-
-judge-requires : tie.Need-judge-requires
-judge-requires c κs = search needs
+judge-areas-requires : tie.Need-judge-areas-requires
+judge-areas-requires c κs = search needs
 
 enum-known-r : tie.Need-enum-known-r
 enum-known-r c = search needs
@@ -36,13 +33,12 @@ len-bytes-requires c κs = search needs
 duration-requires : tie.Need-duration-requires
 duration-requires c κs =
     let told = c .before .before .before .before .before in
-    placed-by _ _ (sym (told .before .before .judge .ensures) ∙ told .enum-told .given .1)
+    placed-by _ _ (sym (told .before .before .judge-areas .ensures) ∙ told .enum-told .given .1)
 
 returns : tie.Need-returns
 unfolding reports
 returns c =
-    let v = c .before .before .before in
-    answer-refused _ _ _ _ (judge-by _ _ _ (v .before .areas-short .ensures) (v .judge .ensures)) _ (c .before .r .given .1)
+    answer-refused _ _ _ _ (c .before .before .before .judge-areas .ensures) _ (c .before .r .given .1)
 
 returns-2 : tie.Need-returns-2
 unfolding reports
@@ -51,17 +47,16 @@ returns-2 c =
     let sends = n .before in
     let told = sends .before .before .before in
     let v = told .before .before in
-    let a = v .before .before .before .before .args in
+    let a = v .before .before .before .args in
     reports-known (books (a .s) (a .ring .now) (a .lost .now)) _ _ _ _ _ (sends .before .is-flushed .ensures) (sends .has-packets-to-send .ensures) (n .len .ensures)
     (c .before .len-bytes .ensures) (c .duration .ensures)
-    ∙ answer-accepted _ _ _ _ (judge-by _ _ _ (v .before .areas-short .ensures) (v .judge .ensures)) (told .enum-told .given .1)
+    ∙ answer-accepted _ _ _ _ (v .judge-areas .ensures) (told .enum-told .given .1)
 
 pub reports-spec : {M : Type 1} → statement M
 reports-spec =
     tie.close
     (tie.spec
-    areas-short-requires
-    judge-requires
+    judge-areas-requires
     enum-known-r
     enum-told
     is-flushed-requires

@@ -19,23 +19,21 @@ use Rattle.refusals.specs.declared.Verdict.{Verdict}
 use Rattle.refusals.specs.declared.Verdict.the-variants.{Accepted, Refused}
 use Rattle.refusals.specs.Verdict.{when}
 use Rattle.refusals.specs.Verdict.Laws.{when-accepted}
-use Rattle.rules.specs.Losses.{Words, items, bad, wordsOf}
+use Rattle.rules.specs.Losses.{Words, items, itemsOf, bad, wordsOf}
 use Rattle.rules.specs.Refusals.{wordsVerdict}
 use Rattle.inspect.specs.Kept.Stands.{kept-ready}
 use Rattle.words.specs.declared.Report.{Report}
 use Rattle.words.specs.declared.Report.the-variants.{Items, BadNak as BadAt}
 use Rattle.words.specs.Words.{judged}
-use Rattle.words.specs.Runs.{itemsOf}
 use Rattle.report.specs.declared.Reported as report
 use Rattle.report.specs.Report.{left, add}
 use Rattle.report.specs.Report.Laws.{Reportable}
-use Rattle.sender.specs.Books.{Books, stateOf, rulesOf, areasShort, judge}
+use Rattle.sender.specs.Books.{Books, stateOf, rulesOf, areasShort, judge, judgeAreas}
 use Rattle.sender.specs.Books.Laws as books
-use Rattle.sender.specs.Calls.{then}
+use Rattle.sender.specs.Calls.{senderOf, then}
 use Rattle.sender.specs.Calls.Laws.{then-accepted}
 use Rattle.answers.specs.Naks.{nakVerdict, naks, nakBy}
 use Rattle.answers.specs.declared.Reported.the-variants.{Done}
-use Rattle.sender.specs.Calls.{senderOf}
 
 room-is : (m n : ℕ) → ltb (m / 3) (3 * n) ≡ ltb (m / 9) n
 room-is m n = go (decLt (m / 9) n)
@@ -67,13 +65,12 @@ words-fine (items is) room e = (refl, ltb-false _ _ (when-accepted (ltb room (3 
 words-fine (bad index) room e = absurd (let z : _≡_ {A = ℕ} 0 1 = cc in omega arith)
 
 module _ (g : Books) (ws : List ℕ) where
-  pub judge-nak-is : (room : ℕ) (short : Bool) (state words v : Verdict) → short ≡ areasShort (rulesOf g) (length (g .ring)) (length (g .lost))
-      → state ≡ judge short g
+  pub judge-nak-is : (room : ℕ) (state words v : Verdict) → state ≡ judgeAreas g
       → words ≡ wordsVerdict (wordsOf ws) (room / 3)
       → v ≡ then state words
       → v ≡ nakVerdict g ws room
   unfolding nakVerdict
-  judge-nak-is room short state words v a b d e = e ∙ rw (b, a, d)
+  judge-nak-is room state words v a d e = e ∙ rw (a, d)
 
   pub reportable : (out : List ℕ) → nakVerdict g ws (length out) ≡ Accepted → Reportable (g .sender .buffer) ws (g .lost) out
   unfolding nakVerdict

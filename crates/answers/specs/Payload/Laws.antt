@@ -7,13 +7,12 @@
 --   find-buffered, find-other  among the buffered packets or not
 -- Assumes nothing.
 use mathlib.Core.Path.{_≡_, sym, ap, _∙_}
-use mathlib.Core.Bool.{Bool, true, _||_}
+use mathlib.Core.Bool.{true, _||_}
 use mathlib.Core.List.{List}
 use mathlib.Core.Option.{Option, none, some}
 use Prim.Native.Nat.{ℕ, _*_, _^_, _≤_, _<_}
 use native.Mathlib.Omega.{arith}
 use lib.Dec.{leb}
-use lib.ListN.{length}
 use borrow.Author.Tests.{lt-ltb, le-ltb}
 use Rattle.numbers.specs.Modular.{seqs, dist}
 use Rattle.refusals.specs.declared.Refusal.the-variants.{BadNumber}
@@ -35,10 +34,10 @@ use Rattle.buffer.specs.State.Stands.{HeldAs}
 use Rattle.inspect.specs.Kept as Buffer
 use Rattle.inspect.specs.Kept.Stands.{kept-ready}
 use Rattle.sender.specs.declared.Sender.{Sender}
-use Rattle.sender.specs.Books.{Books, rulesOf, areasShort, storeShort, judge}
+use Rattle.sender.specs.Books.{Books, judge}
 use Rattle.sender.specs.Books.Laws.{judged}
-use Rattle.sender.specs.Calls.{shortFor, then}
-use Rattle.sender.specs.Calls.Laws.{then-accepted, short-is}
+use Rattle.sender.specs.Calls.{shortFor, then, judgeWithStore}
+use Rattle.sender.specs.Calls.Laws.{then-accepted}
 use Rattle.answers.specs.declared.Found.{Found}
 use Rattle.answers.specs.declared.Found.the-variants.{Held}
 use Rattle.answers.specs.Payload.{flushedAt, findIn, payloadVerdict}
@@ -79,14 +78,12 @@ finding s ring F =
     }
 
 module _ (g : Books) (n store : ℕ) where
-  pub judge-payload-is : (a b : Bool) (state brought v : Verdict) → a ≡ areasShort (rulesOf g) (length (g .ring)) (length (g .lost))
-      → b ≡ storeShort (rulesOf g) store
-      → state ≡ judge (a || b) g
+  pub judge-payload-is : (state brought v : Verdict) → state ≡ judgeWithStore g store
       → brought ≡ when (leb (2 ^ 31) n) BadNumber Accepted
       → v ≡ then state brought
       → v ≡ payloadVerdict g n store
   unfolding payloadVerdict
-  judge-payload-is a b state brought v e f h k m = m ∙ rw (short-is g store a b state e f h, k)
+  judge-payload-is state brought v h k m = m ∙ rw (h, k)
 
   pub findable : payloadVerdict g n store ≡ Accepted → Findable (g .sender) (g .ring)
   unfolding payloadVerdict

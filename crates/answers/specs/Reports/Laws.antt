@@ -1,20 +1,17 @@
 -- What the code of the reports asks for, and what it comes to.
---   judge-by        the code's tests
 --   placed-by       the ring may be read where 2 and 3 do not apply
 --   reports-known   the five answers of the buffer make up the call's
 -- Assumes nothing.
 use mathlib.Core.Path.{_≡_, _∙_}
 use mathlib.Core.Bool.{Bool}
 use Prim.Native.Nat.{ℕ}
-use lib.ListN.{length}
-use Rattle.refusals.specs.declared.Verdict.{Verdict}
 use Rattle.refusals.specs.declared.Verdict.the-variants.{Accepted}
 use Rattle.ring.specs.Ring.Laws.{Placed}
 use Rattle.rules.specs.Reports.{timeOf}
 use Rattle.buffer.specs.State.{packetsOf}
 use Rattle.buffer.specs.State.Reports.{isFlushed, hasPacketsToSend}
 use Rattle.inspect.specs.Kept.Stands.{kept-ready}
-use Rattle.sender.specs.Books.{Books, rulesOf, stateOf, areasShort, judge}
+use Rattle.sender.specs.Books.{Books, rulesOf, stateOf, judge}
 use Rattle.sender.specs.Books.Laws.{judged}
 use Rattle.answers.specs.declared.Told.the-variants.{Known}
 use Rattle.answers.specs.Reports.{reportsOf}
@@ -28,7 +25,3 @@ pub reports-known : (g : Books) (a b : Bool) (n m t : ℕ) → a ≡ isFlushed (
     → t ≡ timeOf (packetsOf (g .sender .buffer .ring) (g .ring))
     → Known (record { «is_flushed» = a; «has_packets_to_send» = b; len = n; «len_bytes» = m; duration = t }) ≡ Known (reportsOf g)
 reports-known g a b n m t e f h k l = rw (e, f, h, k, l)
-
-pub judge-by : (g : Books) (short : Bool) (v : Verdict) → short ≡ areasShort (rulesOf g) (length (g .ring)) (length (g .lost)) → v ≡ judge short g
-    → v ≡ judge (areasShort (rulesOf g) (length (g .ring)) (length (g .lost))) g
-judge-by g short v e f = f ∙ rw e

@@ -21,7 +21,7 @@ use Rattle.ack.specs.declared.Acked.{Acked}
 use Rattle.ack.specs.Ack.{rttOf}
 use Rattle.ack.specs.Ack.Laws.{Asked}
 use Rattle.sender.specs.declared.Sender.{Sender}
-use Rattle.sender.specs.Books.{Books, stateOf, rulesOf, areasShort, judge}
+use Rattle.sender.specs.Books.{Books, stateOf, rulesOf, areasShort, judge, judgeAreas}
 use Rattle.sender.specs.Books.Laws.{judged}
 use Rattle.sender.specs.Calls.{then}
 use Rattle.sender.specs.Calls.Laws.{then-accepted}
@@ -31,15 +31,14 @@ pub acknowledged-by : (s : Sender) (a x : Acked) → a ≡ x → acknowledged s 
 acknowledged-by s a x e = ap (acknowledged s) (sym e)
 
 module _ (g : Books) (n : ℕ) (rtt : AckRtt) where
-  pub judge-ack-is : (short bad : Bool) (state times brought v : Verdict) → short ≡ areasShort (rulesOf g) (length (g .ring)) (length (g .lost))
-      → state ≡ judge short g
+  pub judge-ack-is : (bad : Bool) (state times brought v : Verdict) → state ≡ judgeAreas g
       → bad ≡ badRtt (rttOf rtt)
       → times ≡ when bad BadRtt Accepted
       → brought ≡ when (leb (2 ^ 31) n) BadNumber times
       → v ≡ then state brought
       → v ≡ ackVerdict g n rtt
   unfolding ackVerdict
-  judge-ack-is short bad state times brought v a b d e f h = h ∙ rw (b, a, f, e, d)
+  judge-ack-is bad state times brought v a d e f h = h ∙ rw (a, f, e, d)
 
   pub asked : ackVerdict g n rtt ≡ Accepted → Asked (rulesOf g) (stateOf g) n rtt
   unfolding ackVerdict

@@ -33,7 +33,7 @@ use Rattle.pacing.specs.Pacing.{countFull, input, onInput}
 use Rattle.pacing.specs.Pacing.Laws as PacingLaws
 use Rattle.rules.specs.Settings.{Settings, inRange, storeSize}
 use Rattle.rules.specs.Refusals.{newVerdict}
-use Rattle.rules.proofs.Verdicts.{or-false}
+use Rattle.theorems.proofs.Verdicts.{or-false}
 use Rattle.buffer.specs.declared.Settings as code
 use Rattle.buffer.specs.declared.SendBuffer.{SendBuffer}
 use Rattle.buffer.specs.State.{settingsOf, fresh}
@@ -50,7 +50,7 @@ use Rattle.sender.specs.declared.Made.the-variants as of
 use Rattle.sender.specs.declared.Messaged.{Messaged}
 use Rattle.sender.specs.Books.{Books, stateOf, rulesOf, areasShort, storeShort, judge}
 use Rattle.sender.specs.Books.Laws.{judged}
-use Rattle.sender.specs.Calls.{senderOf, made, countIsFull, inputVerdict, messageVerdict, shortFor, then, finished, area, doneBy, done}
+use Rattle.sender.specs.Calls.{senderOf, made, countIsFull, inputVerdict, messageVerdict, shortFor, then, finished, area, doneBy, done, judgeWithStore}
 
 pub record Counting (s : Sender) : Type 0 where
   pub bytes : s .buffer .bytes < 2 ^ 62
@@ -78,7 +78,7 @@ counting short g e =
 pub short-is : (g : Books) (store : ℕ) (a b : Bool) (v : Verdict) → a ≡ areasShort (rulesOf g) (length (g .ring)) (length (g .lost))
     → b ≡ storeShort (rulesOf g) store
     → v ≡ judge (a || b) g
-    → v ≡ judge (shortFor g store) g
+    → v ≡ judgeWithStore g store
 short-is g store a b v e f h = h ∙ rw (e, f)
 
 pub record Pushable (g : Books) (time now : ℕ) (payload store : List ℕ) : Type 0 where

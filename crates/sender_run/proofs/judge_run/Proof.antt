@@ -7,11 +7,8 @@ use borrow.Author.Needs.{needs}
 use Rattle.sender_run.proofs.judge_run.Statement.{statement}
 use Rattle.sender_run.proofs.judge_run.Tie as tie
 
-areas-short-requires : tie.Need-areas-short-requires
-areas-short-requires c κs = search needs
-
-judge-requires : tie.Need-judge-requires
-judge-requires c κs = search needs
+judge-areas-requires : tie.Need-judge-areas-requires
+judge-areas-requires c κs = search needs
 
 len-requires : tie.Need-len-requires
 len-requires c κs = search needs
@@ -30,15 +27,14 @@ then-requires c κs = search needs
 
 returns : tie.Need-returns
 returns c =
-    judge-run-is _ _ _ _ _ _ _ _ _ _ (c .before .before .before .before .before .before .areas-short .ensures) (c .before .before .before .before .before .judge .ensures)
+    judge-run-is _ _ _ _ _ _ _ _ _ (c .before .before .before .before .before .judge-areas .ensures)
     (c .before .before .before .room-for .ensures ∙ ap (roomFor _) (c .before .before .before .before .len .ensures)) (c .before .before .when .ensures) (c .before .when2 .ensures) (c .then .ensures)
 
 pub judge-run-spec : {M : Type 1} → statement M
 judge-run-spec =
     tie.close
     (tie.spec
-    areas-short-requires
-    judge-requires
+    judge-areas-requires
     len-requires
     room-for-requires
     when-requires

@@ -21,7 +21,7 @@ use Rattle.buffer.specs.declared.SendBuffer.{SendBuffer}
 use Rattle.run.specs.Run as Run
 use Rattle.run.specs.Run.{world}
 use Rattle.run.specs.Run.Turns.{Runnable}
-use Rattle.sender.specs.Books.{Books, stateOf, rulesOf, areasShort, judge}
+use Rattle.sender.specs.Books.{Books, stateOf, rulesOf, areasShort, judge, judgeAreas}
 use Rattle.sender.specs.Books.Laws.{judged}
 use Rattle.sender.specs.Calls.{senderOf, then}
 use Rattle.sender.specs.Calls.Laws.{then-accepted}
@@ -29,15 +29,14 @@ use Rattle.sender_run.specs.declared.Ran.the-variants as ran
 use Rattle.sender_run.specs.Runs.{roomFor, runVerdict, runs, ranBy}
 
 module _ (g : Books) (now p : ℕ) where
-  pub judge-run-is : (out : ℕ) (short : Bool) (state room times v : Verdict) (needed : ℕ) → short ≡ areasShort (rulesOf g) (length (g .ring)) (length (g .lost))
-      → state ≡ judge short g
+  pub judge-run-is : (out : ℕ) (state room times v : Verdict) (needed : ℕ) → state ≡ judgeAreas g
       → needed ≡ roomFor p (g .sender .buffer .ring .len)
       → room ≡ when (ltb out needed) NoRoom Accepted
       → times ≡ when (leb (2 ^ 48) now) BadTime room
       → v ≡ then state times
       → v ≡ runVerdict g now p out
   unfolding runVerdict
-  judge-run-is out short state room times v needed a b n d e h = h ∙ rw (b, a, e, d, n)
+  judge-run-is out state room times v needed a n d e h = h ∙ rw (a, e, d, n)
 
   pub runnable : (out : List ℕ) → runVerdict g now p (length out) ≡ Accepted → Runnable (rulesOf g) now p (stateOf g) out
   unfolding runVerdict

@@ -30,8 +30,8 @@ use Rattle.rules.specs.Numbers.{wire}
 use Rattle.rules.specs.Records.{sends}
 use Rattle.rules.specs.Run as Rules
 use Rattle.rules.specs.Run.Laws as RunLaws
-use Rattle.rules.proofs.Split as split
-use Rattle.rules.proofs.Split.{loop-end, loop-on}
+use Rattle.theorems.proofs.Split as split
+use Rattle.theorems.proofs.Split.{loop-end, loop-on}
 use Rattle.buffer.specs.State.View.{packets-length}
 use Rattle.sending.specs.Sending.{written}
 use Rattle.run.specs.Run as Run

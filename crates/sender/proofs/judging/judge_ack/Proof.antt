@@ -5,11 +5,8 @@ use borrow.Author.Needs.{needs}
 use Rattle.sender.proofs.judging.judge_ack.Statement.{statement}
 use Rattle.sender.proofs.judging.judge_ack.Tie as tie
 
-areas-short-requires : tie.Need-areas-short-requires
-areas-short-requires c κs = search needs
-
-judge-requires : tie.Need-judge-requires
-judge-requires c κs = search needs
+judge-areas-requires : tie.Need-judge-areas-requires
+judge-areas-requires c κs = search needs
 
 rtt-is-bad-requires : tie.Need-rtt-is-bad-requires
 rtt-is-bad-requires c κs = search needs
@@ -27,15 +24,14 @@ returns : tie.Need-returns
 returns c =
     let t = c .before .before in
     let v = t .before .before in
-    judge-ack-is _ _ _ _ _ _ _ _ _ (v .before .areas-short .ensures) (v .judge .ensures) (t .before .rtt-is-bad .ensures) (t .when .ensures)
+    judge-ack-is _ _ _ _ _ _ _ _ (v .judge-areas .ensures) (t .before .rtt-is-bad .ensures) (t .when .ensures)
     (c .before .when2 .ensures) (c .then .ensures)
 
 pub judge-ack-spec : {M : Type 1} → statement M
 judge-ack-spec =
     tie.close
     (tie.spec
-    areas-short-requires
-    judge-requires
+    judge-areas-requires
     rtt-is-bad-requires
     when-requires
     when-requires-2
