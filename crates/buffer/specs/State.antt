@@ -13,6 +13,7 @@
 pub mod Facts
 pub mod Fresh
 pub mod Reports
+pub mod Slots
 pub mod Stands
 pub mod View
 use mathlib.Core.List.{List, map}

@@ -11,17 +11,15 @@ use mathlib.Core.List.{List}
 use mathlib.Core.Option.{Option, none, some}
 use Prim.Native.Nat.{ℕ, _+_, _-_, _*_, _%_, _^_, _≤_, _<_}
 use native.Mathlib.Decide.{decLt}
-use native.Mathlib.Nat.{mod-eq-of-lt, mod-eq-sub-mod, mul-add-mod-self-right}
 use native.Mathlib.Omega.{arith}
-use lib.Dec.{ltb, leb, eqb}
+use lib.Dec.{leb, eqb}
 use lib.ListN.{length, getD}
-use borrow.Author.Tests.{lt-ltb, le-ltb, ltb-true, ltb-false, leb-false}
+use borrow.Author.Tests.{lt-ltb, le-ltb, leb-false}
 use Rattle.numbers.specs.Modular.{seqs, dist}
 use Rattle.refusals.specs.declared.Refusal.the-variants.{BadStore, BadState, BadNumber, NotHeld}
 use Rattle.refusals.specs.declared.Verdict.{Verdict}
 use Rattle.refusals.specs.declared.Verdict.the-variants as verdict
 use Rattle.refusals.specs.Verdict.{when, answer}
-use Rattle.refusals.specs.Choice.{cond-by}
 use Rattle.ring.specs.Entry.{readE}
 use Rattle.ring.specs.Ring.{slotOf}
 use Rattle.rules.specs.Numbers.{wire, distance}
@@ -39,6 +37,7 @@ use Rattle.buffer.specs.State.{packetOf}
 use Rattle.buffer.specs.State.Reports.{packets-is}
 use Rattle.buffer.specs.State.Stands.{HeldAs}
 use Rattle.buffer.specs.State.View.{packets-at}
+use Rattle.buffer.specs.State.Slots.{slot-push}
 use Rattle.sender.specs.Books.{Books, rulesOf, storeShort, kept, judge}
 use Rattle.sender.specs.Books.Stands.{StandsFor, areas-long, judge-accepted, judge-short, judge-broken}
 use Rattle.sender.specs.Calls.{shortFor}
@@ -79,17 +78,7 @@ module _ (g : Books) (s : rules.Sender) (S : StandsFor g s) (n : ℕ) where
   d = distance (wire (s .front)) n
 
   slot-at : d < g .sender .buffer .ring .len → slotOf (g .sender .buffer .ring) d ≡ pushOf s (s .front + d) % capacity c
-  unfolding slotOf
-  slot-at h =
-      let r = g .sender .buffer .ring in
-      let p = S .buffer .placed in
-      let pushes : pushOf s (s .front + d) ≡ S .buffer .turns * capacity c + (r .slot + d) = omega (arith, S .buffer .pushed, packets-is (S .buffer)) in
-      let is : pushOf s (s .front + d) % capacity c ≡ (r .slot + d) % r .cap =
-      ap (λ (m : ℕ). m % capacity c) pushes ∙ mul-add-mod-self-right (S .buffer .turns) (capacity c) (r .slot + d)
-      ∙ ap (λ (m : ℕ). (r .slot + d) % m) (sym (S .buffer .cap)) in
-      cond-by (λ (x : ℕ). x ≡ pushOf s (s .front + d) % capacity c) (ltb (r .slot + d) (r .cap)) (r .slot + d) (r .slot + d - r .cap)
-      (λ q. sym (is ∙ mod-eq-of-lt (ltb-true _ _ q)))
-      (λ q. sym (is ∙ mod-eq-sub-mod (ltb-false _ _ q) ∙ mod-eq-of-lt (omega (arith, p .slot, p .len, h))))
+  slot-at h = slot-push (S .buffer) d (omega arith)
 
   len-at : d < g .sender .buffer .ring .len → readE (g .ring) (slotOf (g .sender .buffer .ring) d) .len ≡ packet s (s .front + d) .len
   unfolding packet packetOf

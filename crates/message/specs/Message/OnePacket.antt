@@ -4,16 +4,15 @@
 --   slot-is                               the next packet's slot: "the k-th packet ever pushed (from 0) lies at (k mod capacity) × packet size"
 --   stands-one, store-one                 both together, and where the payload then lies
 -- Assumes nothing.
-use mathlib.Core.Path.{_≡_, refl, sym, ap, _∙_}
+use mathlib.Core.Path.{_≡_, refl, ap, _∙_}
 use mathlib.Core.Bool.{Bool, true, false}
 use mathlib.Core.List.{List, [], _∷_, _++_}
 use Prim.Native.Nat.{ℕ, _+_, _-_, _*_, _%_, _≤_, _<_}
-use native.Mathlib.Nat.{mod-eq-of-lt, mod-eq-sub-mod, mul-add-mod-self-right}
 use native.Mathlib.Omega.{arith}
-use lib.Dec.{lit≤, leb, ltb}
+use lib.Dec.{lit≤, leb}
 use lib.ListN.{length, take, drop}
 use lib.Seq.{paste}
-use borrow.Author.Tests.{leb-true, leb-false, ltb-true, ltb-false}
+use borrow.Author.Tests.{leb-true, leb-false}
 use Rattle.refusals.specs.Choice.{cond-by}
 use Rattle.encapsulate.specs.declared.Place.{Place}
 use Rattle.encapsulate.specs.declared.Place.the-variants.{First, Middle, Last, Only}
@@ -24,12 +23,13 @@ use Rattle.ring.specs.Entry.Laws.{length-writeE}
 use Rattle.ring.specs.Ring.{slotOf}
 use Rattle.rules.specs.Settings.{Settings, capacity}
 use Rattle.rules.specs.Settings.{placeOf as placeAt}
-use Rattle.rules.specs.Sender.{Packet, Sender, wireSizes}
+use Rattle.rules.specs.Sender.{Packet, Sender, pushOf, wireSizes}
 use Rattle.rules.specs.Message as rules
 use Rattle.buffer.specs.State.{State, placeFrom, packetOf, view}
 use Rattle.buffer.specs.State.View.{packets-push, places-push}
 use Rattle.buffer.specs.State.Stands.{Stands}
 use Rattle.buffer.specs.State.Reports.{packets-is}
+use Rattle.buffer.specs.State.Slots.{slot-push}
 use Rattle.buffer.specs.Removal.{removed}
 use Rattle.buffer.specs.Removal.Laws.{stands-removed}
 use Rattle.message.specs.Message.{World, entryOf, gone, makeRoom, append, roomed, appended, pushOne}
@@ -104,16 +104,9 @@ module _ {c : Settings} {st : State} {s : Sender} (S : Stands c st s) where
       }
 
   pub slot-is : slotOf (st .books .ring) (st .books .ring .len) ≡ s .pushed % capacity c
-  unfolding slotOf
   slot-is =
-      let r = st .books .ring in
-      let p = S .placed in
-      let is : s .pushed % capacity c ≡ (r .slot + r .len) % r .cap =
-      ap (λ (n : ℕ). n % capacity c) (S .pushed) ∙ mul-add-mod-self-right (S .turns) (capacity c) (r .slot + r .len)
-      ∙ ap (λ (n : ℕ). (r .slot + r .len) % n) (sym (S .cap)) in
-      cond-by (λ (x : ℕ). x ≡ s .pushed % capacity c) (ltb (r .slot + r .len) (r .cap)) (r .slot + r .len) (r .slot + r .len - r .cap)
-      (λ q. sym (is ∙ mod-eq-of-lt (ltb-true _ _ q)))
-      (λ q. sym (is ∙ mod-eq-sub-mod (ltb-false _ _ q) ∙ mod-eq-of-lt (omega (arith, p .slot, p .len))))
+      let next : pushOf s (s .front + st .books .ring .len) ≡ s .pushed = omega (arith, packets-is S) in
+      slot-push S (st .books .ring .len) (omega arith) ∙ ap (λ (k : ℕ). k % capacity c) next
 
 pub pushed-room : (c : Settings) (s : Sender) → rules.makeRoom c s .pushed ≡ s .pushed
 unfolding rules.makeRoom
