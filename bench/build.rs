@@ -1,5 +1,5 @@
-//! Compiles library.c against the library's header and links both: `SRT_ARCHIVE`
-//! names the folder of libsrt_sender.a.
+//! Compiles library.c against the library's header and links both: `PHEL_ARCHIVE`
+//! names the folder of libphelgomrit.a.
 
 use std::{env, path::Path, process::Command};
 
@@ -9,7 +9,7 @@ fn run(command: &mut Command) {
 }
 
 fn main() {
-    let folder = env::var("SRT_ARCHIVE").expect("SRT_ARCHIVE names a folder");
+    let folder = env::var("PHEL_ARCHIVE").expect("PHEL_ARCHIVE names a folder");
     let out = env::var("OUT_DIR").expect("cargo sets it");
     let object = format!("{out}/library.o");
     let archive = format!("{out}/liblent.a");
@@ -24,16 +24,16 @@ fn main() {
         ])
         .args(["-c", "library.c", "-o", &object]));
     run(Command::new("ar").args(["rcs", &archive, &object]));
-    for file in ["library.c", "../include/srt_sender.h"] {
+    for file in ["library.c", "../include/phelgomrit.h"] {
         println!("cargo::rerun-if-changed={file}");
     }
-    println!("cargo::rerun-if-env-changed=SRT_ARCHIVE");
+    println!("cargo::rerun-if-env-changed=PHEL_ARCHIVE");
     println!(
         "cargo::rerun-if-changed={}",
-        Path::new(&folder).join("libsrt_sender.a").display()
+        Path::new(&folder).join("libphelgomrit.a").display()
     );
     println!("cargo::rustc-link-search=native={out}");
     println!("cargo::rustc-link-search=native={folder}");
     println!("cargo::rustc-link-lib=static=lent");
-    println!("cargo::rustc-link-lib=static=srt_sender");
+    println!("cargo::rustc-link-lib=static=phelgomrit");
 }

@@ -1,13 +1,13 @@
 /* A sender with the areas that it is lent, behind plain numbers: so the Rust program needs no declaration of the
- * library's structs, and the library is called as a host calls it, by include/srt_sender.h. */
-#include "srt_sender.h"
+ * library's structs, and the library is called as a host calls it, by include/phelgomrit.h. */
+#include "phelgomrit.h"
 
 #include <stdlib.h>
 #include <string.h>
 
 /* The books of a sender. */
 struct kept {
-    struct srt_sender sender;
+    struct phel_sender sender;
     uint64_t *ring;
     uint32_t *lost;
 };
@@ -30,10 +30,10 @@ static void *taken(size_t bytes)
     return area;
 }
 
-static void take_areas(struct kept *k, const struct srt_settings *c)
+static void take_areas(struct kept *k, const struct phel_settings *c)
 {
-    k->ring = taken(SRT_RING_WORDS(c->buffer) * sizeof *k->ring);
-    k->lost = taken(SRT_LOST_WORDS(c->buffer) * sizeof *k->lost);
+    k->ring = taken(PHEL_RING_WORDS(c->buffer) * sizeof *k->ring);
+    k->lost = taken(PHEL_LOST_WORDS(c->buffer) * sizeof *k->lost);
 }
 
 static void free_areas(struct kept *k)
@@ -42,29 +42,29 @@ static void free_areas(struct kept *k)
     free(k->lost);
 }
 
-static struct srt_areas areas(const struct lent *l)
+static struct phel_areas areas(const struct lent *l)
 {
-    const struct srt_settings *c = &l->now.sender.settings;
-    struct srt_areas a = {l->now.ring, SRT_RING_WORDS(c->buffer),           l->now.lost, SRT_LOST_WORDS(c->buffer),
-                          l->store,    SRT_STORE_BYTES(c->buffer, c->size)};
+    const struct phel_settings *c = &l->now.sender.settings;
+    struct phel_areas a = {l->now.ring, PHEL_RING_WORDS(c->buffer),           l->now.lost, PHEL_LOST_WORDS(c->buffer),
+                          l->store,    PHEL_STORE_BYTES(c->buffer, c->size)};
     return a;
 }
 
 /* A sender with these settings, its rate unlimited; NULL where it is refused. */
-struct lent *lent_new(const struct srt_settings *settings)
+struct lent *lent_new(const struct phel_settings *settings)
 {
     struct lent *l = taken(sizeof *l);
-    if (srt_sender_new(&l->now.sender, settings, SRT_MODE_UNLIMITED, 0, 0, NULL) != 0) {
+    if (phel_sender_new(&l->now.sender, settings, PHEL_MODE_UNLIMITED, 0, 0, NULL) != 0) {
         free(l);
         return NULL;
     }
     l->mark.sender = l->now.sender;
     take_areas(&l->now, settings);
     take_areas(&l->mark, settings);
-    l->store = taken(SRT_STORE_BYTES(settings->buffer, settings->size));
-    l->records_len = SRT_RECORDS_BYTES(settings->buffer, settings->buffer);
+    l->store = taken(PHEL_STORE_BYTES(settings->buffer, settings->size));
+    l->records_len = PHEL_RECORDS_BYTES(settings->buffer, settings->buffer);
     l->records = taken(l->records_len);
-    l->runs_len = SRT_RUNS_WORDS(SRT_WORDS_MOST);
+    l->runs_len = PHEL_RUNS_WORDS(PHEL_WORDS_MOST);
     l->runs = taken(l->runs_len * sizeof *l->runs);
     return l;
 }
@@ -84,8 +84,8 @@ static void copy(struct kept *to, const struct kept *from)
 {
     const uint32_t buffer = from->sender.settings.buffer;
     to->sender = from->sender;
-    memcpy(to->ring, from->ring, SRT_RING_WORDS(buffer) * sizeof *to->ring);
-    memcpy(to->lost, from->lost, SRT_LOST_WORDS(buffer) * sizeof *to->lost);
+    memcpy(to->ring, from->ring, PHEL_RING_WORDS(buffer) * sizeof *to->ring);
+    memcpy(to->lost, from->lost, PHEL_LOST_WORDS(buffer) * sizeof *to->lost);
 }
 
 /* Notes the sender as it is, and goes back to it. */
@@ -103,9 +103,9 @@ void lent_back(struct lent *l)
 
 int lent_message(struct lent *l, uint64_t time, uint64_t now, const uint8_t *payload, size_t len, uint64_t answer[4])
 {
-    const struct srt_areas a = areas(l);
-    struct srt_messaged done = {0, 0, 0, 0};
-    const int refused = srt_sender_message(&l->now.sender, &a, time, now, payload, len, &done, NULL);
+    const struct phel_areas a = areas(l);
+    struct phel_messaged done = {0, 0, 0, 0};
+    const int refused = phel_sender_message(&l->now.sender, &a, time, now, payload, len, &done, NULL);
     answer[0] = done.made;
     answer[1] = done.removed;
     answer[2] = done.bytes;
@@ -116,10 +116,10 @@ int lent_message(struct lent *l, uint64_t time, uint64_t now, const uint8_t *pay
 /* A full ACK. */
 int lent_ack(struct lent *l, uint32_t number, uint32_t full, uint32_t mean, uint32_t variance, uint64_t answer[3])
 {
-    const struct srt_areas a = areas(l);
-    const struct srt_rtt rtt = {mean, variance};
-    struct srt_acked done = {0, 0, false, 0};
-    const int refused = srt_sender_ack(&l->now.sender, &a, number, &full, &rtt, &done, NULL);
+    const struct phel_areas a = areas(l);
+    const struct phel_rtt rtt = {mean, variance};
+    struct phel_acked done = {0, 0, false, 0};
+    const int refused = phel_sender_ack(&l->now.sender, &a, number, &full, &rtt, &done, NULL);
     answer[0] = done.received;
     answer[1] = done.recovered;
     answer[2] = done.full_number;
@@ -128,15 +128,15 @@ int lent_ack(struct lent *l, uint32_t number, uint32_t full, uint32_t mean, uint
 
 int lent_nak(struct lent *l, const uint32_t *words, size_t len, size_t *runs)
 {
-    const struct srt_areas a = areas(l);
-    return srt_sender_nak(&l->now.sender, &a, words, len, l->runs, l->runs_len, runs, NULL);
+    const struct phel_areas a = areas(l);
+    return phel_sender_nak(&l->now.sender, &a, words, len, l->runs, l->runs_len, runs, NULL);
 }
 
 int lent_run(struct lent *l, uint64_t now, uint32_t budget, uint64_t answer[2])
 {
-    const struct srt_areas a = areas(l);
-    struct srt_ran done = {0, 0};
-    const int refused = srt_sender_run(&l->now.sender, &a, now, budget, false, l->records, l->records_len, &done, NULL);
+    const struct phel_areas a = areas(l);
+    struct phel_ran done = {0, 0};
+    const int refused = phel_sender_run(&l->now.sender, &a, now, budget, false, l->records, l->records_len, &done, NULL);
     answer[0] = done.records;
     answer[1] = done.left;
     return refused;
@@ -144,9 +144,9 @@ int lent_run(struct lent *l, uint64_t now, uint32_t budget, uint64_t answer[2])
 
 int lent_reports(const struct lent *l, uint64_t answer[5])
 {
-    const struct srt_areas a = areas(l);
-    struct srt_reports done = {false, false, 0, 0, 0};
-    const int refused = srt_sender_reports(&l->now.sender, &a, &done, NULL);
+    const struct phel_areas a = areas(l);
+    struct phel_reports done = {false, false, 0, 0, 0};
+    const int refused = phel_sender_reports(&l->now.sender, &a, &done, NULL);
     answer[0] = done.is_flushed;
     answer[1] = done.has_packets_to_send;
     answer[2] = done.len;

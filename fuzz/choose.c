@@ -16,7 +16,7 @@ uint64_t time_of(unsigned how, uint64_t value, uint64_t *clock, unsigned bits)
 
 uint32_t sequence_of(const struct call *k)
 {
-    const struct srt_books *b = &kept.sender.books;
+    const struct phel_books *b = &kept.sender.books;
     const uint32_t near[8] = {
         b->front + k->a % (b->sent % 4096 + 2), b->front + b->sent,
         b->front + (uint32_t)b->ring.len,       b->front - 1 - k->a % 4,
@@ -38,7 +38,7 @@ size_t length_of(const struct call *k)
     case 2:
         return size < 16 ? k->a % 1024 : k->a;
     default:
-        return size < 256 ? SRT_MESSAGE_MOST + 1 + k->a % 2 : SRT_MESSAGE_MOST - 1 + k->a % 3;
+        return size < 256 ? PHEL_MESSAGE_MOST + 1 + k->a % 2 : PHEL_MESSAGE_MOST - 1 + k->a % 3;
     }
 }
 

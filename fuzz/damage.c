@@ -20,7 +20,7 @@ static void damage_one(void *at, size_t bytes, const struct call *k)
 /* A sender with a setting changed. */
 void renew(const struct call *k)
 {
-    struct srt_settings c = kept.sender.settings;
+    struct phel_settings c = kept.sender.settings;
     damage_one(&c, sizeof c, k);
     call_new(&c, k->how >> 4 & 3, k->c >> k->a % 64, k->b % 16384);
 }
@@ -30,7 +30,7 @@ void break_books(const struct call *k)
     if (k->how & 64)
         before_damage();
     const uint32_t buffer = kept.sender.settings.buffer;
-    const size_t packets = least(SRT_CAPACITY(buffer), PACKETS_MOST);
+    const size_t packets = least(PHEL_CAPACITY(buffer), PACKETS_MOST);
     if (k->step % STEPS == BREAK_SENDER)
         damage_one(&kept.sender, sizeof kept.sender, k);
     else if (k->how & 16)

@@ -1,7 +1,7 @@
 /* entries.c: calls the library's entries with whatever an input says, and checks every answer.
  *
  * An input is a head of 32 bytes (settings, and how the sender begins) and then calls of 16 bytes each (input.h). Books
- * are made by srt_entry_new and driven by the calls, or are the input's bytes; either way calls may damage any word of
+ * are made by phel_entry_new and driven by the calls, or are the input's bytes; either way calls may damage any word of
  * them, of the ring and of the loss list, for one call or for good, and lend areas of other lengths. Areas and lists
  * lie between forbidden pages (areas.h).
  *
@@ -31,9 +31,9 @@ static void begin(const uint8_t *head)
 {
     const bool raw = head[0] & RAW_SETTINGS;
     const uint32_t size = (uint32_t)number_at(head + 2, 2), buffer = (uint32_t)number_at(head + 4, 2);
-    const struct srt_settings c = {
+    const struct phel_settings c = {
         .first = (uint32_t)number_at(head + 16, 4) & (raw ? UINT32_MAX : 0x7fffffffu),
-        .size = raw ? size : 1 + size % (head[0] & LARGE_PACKETS ? SRT_SIZE_MOST : 32),
+        .size = raw ? size : 1 + size % (head[0] & LARGE_PACKETS ? PHEL_SIZE_MOST : 32),
         .buffer = raw ? buffer : buffer % (head[0] & LARGE_BUFFER ? PACKETS_MOST + 1 : 12),
         .flow = (uint32_t)number_at(head + 6, 2) + (raw && head[14] & 1 ? 65530u : 0),
         .latency = (uint32_t)number_at(head + 8, 4) % (raw ? UINT32_MAX : 65535001u),
@@ -42,7 +42,7 @@ static void begin(const uint8_t *head)
     };
     const uint32_t mode = head[1] % (raw ? 6 : 4);
     const uint64_t rate = number_at(head + 24, 8) >> (raw ? 0 : 24);
-    const bool unused = !raw && mode == SRT_MODE_UNLIMITED, no_overhead = !raw && mode >= SRT_MODE_MAX;
+    const bool unused = !raw && mode == PHEL_MODE_UNLIMITED, no_overhead = !raw && mode >= PHEL_MODE_MAX;
     call_new(&c, mode, unused ? 0 : rate, no_overhead ? 0 : head[13] * (raw ? 64u : 1u));
 }
 
@@ -77,7 +77,7 @@ static void make_step(const struct call *k)
 
 static void clear(const uint8_t *head)
 {
-    static const struct srt_sender no_sender;
+    static const struct phel_sender no_sender;
     kept.front = head[0] & AT_FRONT;
     kept.clock = number_at(head + 14, 2);
     kept.ticks = kept.clock * 1000;
@@ -85,7 +85,7 @@ static void clear(const uint8_t *head)
     kept.damaged = false;
     kept.last = 0;
     kept.sender = no_sender;
-    kept.timers = srt_entry_timers_new(kept.ticks, 1000000000, 5000000000).timers;
+    kept.timers = phel_entry_timers_new(kept.ticks, 1000000000, 5000000000).timers;
     memset(kept.ring.kept, head[15], kept.ring.room);
     memset(kept.lost.kept, head[15], kept.lost.room);
 }

@@ -22,8 +22,8 @@ void map_areas(void)
     area_map(&kept.payload, PAYLOAD_ROOM, 1);
     area_map(&kept.words, WORDS_ROOM, 4);
     area_map(&kept.runs, WORDS_ROOM * 9, 4);
-    area_map(&kept.records, SRT_RECORDS_BYTES(PACKETS_MOST, PACKETS_MOST), 1);
-    area_map(&kept.header, SRT_HEADER_BYTES, 1);
+    area_map(&kept.records, PHEL_RECORDS_BYTES(PACKETS_MOST, PACKETS_MOST), 1);
+    area_map(&kept.header, PHEL_HEADER_BYTES, 1);
     area_fix(&kept.payload, payload_byte);
     memset(kept.runs.kept, 0xee, kept.runs.room);
     memset(kept.records.kept, 0xee, kept.records.room);
@@ -53,14 +53,14 @@ static void lend(struct area *a, size_t asked, unsigned bit)
     area_lend(a, kept.lend.how & bit ? other_length(len, most) : len, kept.front);
 }
 
-struct srt_areas lend_areas(void)
+struct phel_areas lend_areas(void)
 {
-    const struct srt_settings *c = &kept.sender.settings;
-    lend(&kept.ring, SRT_RING_WORDS(c->buffer), 1);
-    lend(&kept.lost, SRT_LOST_WORDS(c->buffer), 2);
-    lend(&kept.store, SRT_STORE_BYTES(c->buffer, c->size), 4);
+    const struct phel_settings *c = &kept.sender.settings;
+    lend(&kept.ring, PHEL_RING_WORDS(c->buffer), 1);
+    lend(&kept.lost, PHEL_LOST_WORDS(c->buffer), 2);
+    lend(&kept.store, PHEL_STORE_BYTES(c->buffer, c->size), 4);
     kept.lend.how = 0;
-    return (struct srt_areas){RING, LOST, STORE};
+    return (struct phel_areas){RING, LOST, STORE};
 }
 
 /* ---- After a call ---------------------------------------------------------------------------------------------- */
@@ -80,7 +80,7 @@ void areas_stay(void)
     area_stays(&kept.store);
 }
 
-bool refused(enum step step, const struct srt_sender *left, const struct srt_sender *back, const want *why,
+bool refused(enum step step, const struct phel_sender *left, const struct phel_sender *back, const want *why,
              const want *wanted)
 {
     note_answer(step, why->number);
@@ -99,11 +99,11 @@ struct copy modelled(void)
                          kept.records.kept, (uint32_t *)kept.runs.kept};
 }
 
-void check_reports(const struct srt_reports_answer *r)
+void check_reports(const struct phel_reports_answer *r)
 {
-    const struct srt_books *b = &kept.sender.books;
+    const struct phel_books *b = &kept.sender.books;
     struct copy by = modelled();
-    struct srt_reports wanted;
+    struct phel_reports wanted;
     must(r->refusal.number == 0, "an accepted call left books that are refused");
     model_reports(&by, &wanted);
     must(same_reports(&r->done, &wanted), "reports: another answer");
@@ -112,13 +112,13 @@ void check_reports(const struct srt_reports_answer *r)
     note(NOTE_SHAPE + 2, size_of(wanted.duration));
 }
 
-void go_on(const struct copy *by, const struct srt_sender *back)
+void go_on(const struct copy *by, const struct phel_sender *back)
 {
     must(same_sender(&by->sender, back), "an accepted call left another sender than document 01");
     areas_stay();
     kept.sender = *back;
     kept.damaged = false;
-    const struct srt_reports_answer r = srt_entry_reports(kept.sender, RING, LOST);
+    const struct phel_reports_answer r = phel_entry_reports(kept.sender, RING, LOST);
     check_reports(&r);
 }
 
@@ -126,7 +126,7 @@ void go_on(const struct copy *by, const struct srt_sender *back)
 
 /* The books as they were before they were damaged. */
 static struct {
-    struct srt_sender sender;
+    struct phel_sender sender;
     uint64_t ring[PACKETS_MOST * 6];
     uint32_t lost[PACKETS_MOST];
 } undamaged;

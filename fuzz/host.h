@@ -10,13 +10,13 @@ enum {
     PACKETS_MOST = 340,
     STORE_MOST = 64 * 1024,
     WORDS_ROOM = 640,
-    PAYLOAD_ROOM = SRT_MESSAGE_MOST + 64
+    PAYLOAD_ROOM = PHEL_MESSAGE_MOST + 64
 };
 
 /* What is kept from call to call. */
 struct host {
-    struct srt_sender sender;
-    struct srt_timers timers;
+    struct phel_sender sender;
+    struct phel_timers timers;
     struct area ring, lost, store, payload, words, runs, records, header;
     bool front;       /* areas are lent at the front of their pages */
     uint64_t clock;   /* microseconds */
@@ -38,7 +38,7 @@ static inline size_t least(size_t a, size_t b)
 void map_areas(void);
 
 /* Lends ring, loss list and store as the settings ask, or as the call before said. */
-struct srt_areas lend_areas(void);
+struct phel_areas lend_areas(void);
 
 #define RING (uint64_t *)kept.ring.at, kept.ring.len
 #define LOST (uint32_t *)kept.lost.at, kept.lost.len
@@ -48,7 +48,7 @@ struct srt_areas lend_areas(void);
 void note_answer(unsigned step, uint32_t number);
 
 /* Whether a call was refused, as |wanted| says: it gave back |left| then, and wrote nothing. */
-bool refused(enum step step, const struct srt_sender *left, const struct srt_sender *back, const want *why,
+bool refused(enum step step, const struct phel_sender *left, const struct phel_sender *back, const want *why,
              const want *wanted);
 
 /* The sender and the areas for a model to work in: what is kept becomes what the call must leave. */
@@ -58,10 +58,10 @@ struct copy modelled(void);
 void areas_stay(void);
 
 /* The reports of what is kept are the model's. */
-void check_reports(const struct srt_reports_answer *r);
+void check_reports(const struct phel_reports_answer *r);
 
 /* An accepted call left what the model did; the next call takes it. */
-void go_on(const struct copy *by, const struct srt_sender *back);
+void go_on(const struct copy *by, const struct phel_sender *back);
 
 /* Keeps the books as they are, so that a damage is for one call; and undoes it, but where an accepted call went on. */
 void before_damage(void);
@@ -86,7 +86,7 @@ size_t room_of(unsigned how, size_t needed, uint32_t any, const struct area *a);
 
 /* ---- calls.c, timers.c, damage.c: the steps */
 
-void call_new(const struct srt_settings *c, uint32_t mode, uint64_t rate, uint64_t overhead);
+void call_new(const struct phel_settings *c, uint32_t mode, uint64_t rate, uint64_t overhead);
 void call_sender(const struct call *k);
 void call_header(const struct call *k);
 void call_timers(const struct call *k);

@@ -3,7 +3,7 @@
 #ifndef INPUT_H
 #define INPUT_H
 
-#include "srt_sender.h"
+#include "phelgomrit.h"
 
 enum { HEAD = 32, CALL = 16, CALLS_MOST = 64 };
 
@@ -27,8 +27,8 @@ struct call {
 /* Where the calls begin. */
 static inline size_t calls_from(const uint8_t *data, size_t size)
 {
-    const bool raw = (data[0] & RAW_BOOKS) && size >= HEAD + sizeof(struct srt_sender);
-    return raw ? HEAD + sizeof(struct srt_sender) : HEAD;
+    const bool raw = (data[0] & RAW_BOOKS) && size >= HEAD + sizeof(struct phel_sender);
+    return raw ? HEAD + sizeof(struct phel_sender) : HEAD;
 }
 
 /* The number in |bytes| bytes, the lowest first. */

@@ -18,38 +18,38 @@ static void wake(const struct call *k, uint64_t now)
     const bool packets = k->how & 128, known = k->how & 64;
     const uint64_t message = k->c * 3;
     const struct brought b = {.now = now, .message = known ? &message : NULL};
-    const struct srt_nanoseconds_answer r =
-        srt_entry_timers_next_timer(kept.timers, now, packets, known, message, k->b);
+    const struct phel_nanoseconds_answer r =
+        phel_entry_timers_next_timer(kept.timers, now, packets, known, message, k->b);
     note_answer(TIMERS + 1, r.refusal);
     must((int)r.refusal == want_timers(E_NEXT_TIMER, &kept.timers, &b), "timers: another refusal than document 01's");
     must(r.nanoseconds == (r.refusal != 0 ? 0 : model_next_timer(&kept.timers, &b, packets, k->b)),
          "timers: another wake-up");
 }
 
-static struct srt_timers_answer timers_answer(enum entry e, const struct brought *b)
+static struct phel_timers_answer timers_answer(enum entry e, const struct brought *b)
 {
     switch (e) {
     case E_CHECK_SND:
-        return srt_entry_timers_check_snd(kept.timers, b->now);
+        return phel_entry_timers_check_snd(kept.timers, b->now);
     case E_CHECK_FULL_ACK:
-        return srt_entry_timers_check_full_ack(kept.timers, b->now);
+        return phel_entry_timers_check_full_ack(kept.timers, b->now);
     case E_CHECK_NAK:
-        return srt_entry_timers_check_nak(kept.timers, b->now);
+        return phel_entry_timers_check_nak(kept.timers, b->now);
     case E_CHECK_STATISTICS:
-        return srt_entry_timers_check_statistics(kept.timers, b->now);
+        return phel_entry_timers_check_statistics(kept.timers, b->now);
     case E_CHECK_IDLE:
-        return srt_entry_timers_check_peer_idle_timeout(kept.timers, b->now);
+        return phel_entry_timers_check_peer_idle_timeout(kept.timers, b->now);
     case E_SND_PERIOD:
-        return srt_entry_timers_update_snd_period(kept.timers, b->period);
+        return phel_entry_timers_update_snd_period(kept.timers, b->period);
     case E_UPDATE_RTT:
-        return srt_entry_timers_update_rtt(kept.timers, b->rtt);
+        return phel_entry_timers_update_rtt(kept.timers, b->rtt);
     default:
-        return srt_entry_timers_reset_exp(kept.timers, b->now);
+        return phel_entry_timers_reset_exp(kept.timers, b->now);
     }
 }
 
 /* A refused call gave back what it was given; an accepted one left |by|, and the next call takes it. */
-static void settle(const struct srt_timers_answer *r, int wanted, const struct srt_timers *by, uint32_t periods)
+static void settle(const struct phel_timers_answer *r, int wanted, const struct phel_timers *by, uint32_t periods)
 {
     note_answer(TIMERS, r->refusal);
     must((int)r->refusal == wanted, "timers: another refusal than document 01's");
@@ -61,9 +61,9 @@ static void settle(const struct srt_timers_answer *r, int wanted, const struct s
 
 static void renew_timers(const struct call *k, uint64_t now)
 {
-    const struct srt_timers_answer r = srt_entry_timers_new(now, k->c, k->b);
+    const struct phel_timers_answer r = phel_entry_timers_new(now, k->c, k->b);
     const int wanted = want_timers_new(now, k->c, k->b);
-    struct srt_timers by = {0};
+    struct phel_timers by = {0};
     if (wanted == 0)
         model_timers_new(&by, now, k->c, k->b);
     settle(&r, wanted, &by, 0);
@@ -83,8 +83,8 @@ void call_timers(const struct call *k)
     }
     const struct brought b = {.now = now, .period = k->c, .rtt = {k->b, (uint32_t)(k->c >> 32)}};
     const int wanted = want_timers(e, &kept.timers, &b);
-    const struct srt_timers_answer r = timers_answer(e, &b);
-    struct srt_timers by = kept.timers;
+    const struct phel_timers_answer r = timers_answer(e, &b);
+    struct phel_timers by = kept.timers;
     const uint32_t periods = wanted == 0 ? model_timers(e, &by, &b) : 0;
     settle(&r, wanted, &by, periods);
     note(NOTE_RECORD + (k->how & 7), size_of(periods));

@@ -11,14 +11,14 @@ static void message_late(void) { do_message(BIT(48), 0, payload_at(5), 5, NULL);
 static void message_now_late(void) { do_message(0, UINT64_MAX, payload_at(5), 5, NULL); }
 static void message_long(void)
 {
-    static const uint8_t zeros[SRT_MESSAGE_MOST + 1];
+    static const uint8_t zeros[PHEL_MESSAGE_MOST + 1];
     do_message(0, 0, zeros, sizeof zeros, NULL);
 }
 
 static void ack_front(void) { do_ack(front, NULL, NULL, NULL); }
 static void ack_next(void)
 {
-    const struct srt_rtt rtt = {100000000, 0};
+    const struct phel_rtt rtt = {100000000, 0};
     const uint32_t full = 4294967295u;
     do_ack(next, &full, &rtt, NULL);
 }
@@ -29,7 +29,7 @@ static void ack_one(void)
 }
 static void ack_stale(void)
 {
-    const struct srt_rtt rtt = {4321, 1234};
+    const struct phel_rtt rtt = {4321, 1234};
     const uint32_t full = 0;
     do_ack(front, &full, &rtt, NULL);
 }
@@ -37,7 +37,7 @@ static void ack_outside(void) { do_ack((next + 1) & 0x7fffffff, NULL, NULL, NULL
 static void ack_bad_number(void) { do_ack(front | 0x80000000u, NULL, NULL, NULL); }
 static void ack_bad_rtt(void)
 {
-    const struct srt_rtt rtt = {1, 100000001};
+    const struct phel_rtt rtt = {1, 100000001};
     do_ack(front, NULL, &rtt, NULL);
 }
 
@@ -83,7 +83,7 @@ static void run_late(void) { do_run(BIT(48) - 1, UINT32_MAX, true, NULL); }
 static void run_bad_time(void) { do_run(BIT(48), 1, false, NULL); }
 static void run_no_room(void)
 {
-    const size_t need = SRT_RECORDS_BYTES(2, desk.sender.books.ring.len);
+    const size_t need = PHEL_RECORDS_BYTES(2, desk.sender.books.ring.len);
     const size_t room = need <= desk.records_len ? need - 1 : desk.records_len;
     desk.records += side == AT_END ? desk.records_len - room : 0;
     desk.records_len = room;

@@ -81,9 +81,9 @@ want *asked_why(void)
     return ask_all || turn % 3 != 0 ? &why : NULL;
 }
 
-const struct srt_areas *seen(void)
+const struct phel_areas *seen(void)
 {
-    static struct srt_areas a;
+    static struct phel_areas a;
     a = desk.lent;
     a.ring_len = a.ring == NULL ? 0 : a.ring_len;
     a.lost_len = a.lost == NULL ? 0 : a.lost_len;
@@ -99,7 +99,7 @@ static int bend(int number)
 {
     if (bent == 1 && number != 0 && desk.records_len > 0)
         desk.records[desk.records_len - 1] ^= 1;
-    if (bent == 2 && number == SRT_BAD_STATE)
+    if (bent == 2 && number == PHEL_BAD_STATE)
         return 0;
     if (bent == 3 && number == 0)
         *(volatile uint32_t *)(desk.lent.lost + desk.lent.lost_len) = 0;
@@ -166,7 +166,7 @@ bool once_more(int number)
            desk.lent.store != NULL && desk.records != NULL && desk.runs != NULL;
 }
 
-void given_back(int number, const want *told, const struct srt_sender *sender)
+void given_back(int number, const want *told, const struct phel_sender *sender)
 {
     check(bent != 0 || told->number == (uint32_t)number, "the entry answers another number");
     check(same_sender(sender, &desk.sender), "the entry does not give the sender back");

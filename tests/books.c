@@ -2,7 +2,7 @@
 #include "rules.h"
 
 /* "Capacity is the buffer size, or 1 where that is 0." */
-size_t capacity_of(const struct srt_settings *c)
+size_t capacity_of(const struct phel_settings *c)
 {
     return c->buffer == 0 ? 1 : c->buffer;
 }
@@ -14,7 +14,7 @@ uint32_t distance(uint32_t from, uint32_t to)
 }
 
 /* "first sequence number below 2^31; packet size 1 to 1,456; ..." */
-bool settings_kept(const struct srt_settings *c)
+bool settings_kept(const struct phel_settings *c)
 {
     if (c->first >= BIT(31))
         return false;
@@ -29,38 +29,38 @@ bool settings_kept(const struct srt_settings *c)
 bool mode_kept(uint32_t mode, uint64_t rate, uint64_t overhead)
 {
     switch (mode) {
-    case SRT_MODE_INPUT:
-    case SRT_MODE_ESTIMATED:
+    case PHEL_MODE_INPUT:
+    case PHEL_MODE_ESTIMATED:
         return rate <= BIT(40) && overhead <= 10000;
-    case SRT_MODE_MAX:
+    case PHEL_MODE_MAX:
         return rate <= BIT(40) && overhead == 0;
-    case SRT_MODE_UNLIMITED:
+    case PHEL_MODE_UNLIMITED:
         return rate == 0 && overhead == 0;
     }
     return false;
 }
 
 /* "its counts at most 2^38, means and variances at most 2^42" */
-static bool estimate_kept(const struct srt_estimate *e)
+static bool estimate_kept(const struct phel_estimate *e)
 {
     return e->count <= BIT(38) && e->mean <= BIT(42) && e->variance <= BIT(42);
 }
 
 /* "pacing's next below 2^49"; it is 0 until pacing has begun. */
-static bool pacing_kept(const struct srt_pacing *p)
+static bool pacing_kept(const struct phel_pacing *p)
 {
     if (p->begun > 1 || (p->begun == 0 && p->next != 0) || p->next >= BIT(49))
         return false;
     return estimate_kept(&p->packets) && estimate_kept(&p->bytes) && mode_kept(p->mode, p->rate, p->overhead);
 }
 
-bool rtt_kept(const struct srt_rtt *r)
+bool rtt_kept(const struct phel_rtt *r)
 {
     return r->mean <= 100000000 && r->variance <= 100000000;
 }
 
 /* A flushed packet is held, with a number, a slot and a length in their ranges, or nothing is and all is 0. */
-static bool held_kept(const struct srt_held *h, const struct srt_settings *c)
+static bool held_kept(const struct phel_held *h, const struct phel_settings *c)
 {
     if (h->held == 0)
         return h->number == 0 && h->slot == 0 && h->len == 0;
@@ -69,7 +69,7 @@ static bool held_kept(const struct srt_held *h, const struct srt_settings *c)
 
 /* "sent packets, and only those, have a transmit count of at least 1 (held at 65,535) and a resend time below 2^49;
  * times below 2^48; payloads at most packet size"; place 0 to 3; a message number has 26 bits. */
-static bool entry_kept(const uint64_t *e, const struct srt_settings *c, bool sent)
+static bool entry_kept(const uint64_t *e, const struct phel_settings *c, bool sent)
 {
     if (e[0] >= BIT(48) || e[1] >= BIT(26) || e[2] > 3 || e[3] > c->size)
         return false;
@@ -79,9 +79,9 @@ static bool entry_kept(const uint64_t *e, const struct srt_settings *c, bool sen
 }
 
 /* Every packet, and "byte count below 2^62 and not below the sum of buffered wire sizes". */
-static bool packets_kept(const struct srt_sender *s, const struct srt_areas *a)
+static bool packets_kept(const struct phel_sender *s, const struct phel_areas *a)
 {
-    const struct srt_books *b = &s->books;
+    const struct phel_books *b = &s->books;
     uint64_t sum = 0;
     for (size_t i = 0; i < b->ring.len; i++) {
         const uint64_t *e = a->ring + (b->ring.slot + i) % b->ring.cap * 6;
@@ -94,7 +94,7 @@ static bool packets_kept(const struct srt_sender *s, const struct srt_areas *a)
 
 /* "the loss list ascending from the front, without repeats, all sent": so there are no more of them than sent ones. It
  * stands farthest first. */
-static bool losses_kept(const struct srt_books *b, const struct srt_areas *a)
+static bool losses_kept(const struct phel_books *b, const struct phel_areas *a)
 {
     if (b->lost > b->sent)
         return false;
@@ -108,9 +108,9 @@ static bool losses_kept(const struct srt_books *b, const struct srt_areas *a)
 }
 
 /* All book rules of a sender; where the settings are in range, ring and lost must be long enough for them. */
-bool books_kept(const struct srt_sender *s, const struct srt_areas *a)
+bool books_kept(const struct phel_sender *s, const struct phel_areas *a)
 {
-    const struct srt_books *b = &s->books;
+    const struct phel_books *b = &s->books;
     if (!settings_kept(&s->settings) || !pacing_kept(&s->pacing))
         return false;
     if (b->ring.cap != capacity_of(&s->settings) || b->ring.slot >= b->ring.cap || b->ring.len > b->ring.cap)
@@ -122,13 +122,13 @@ bool books_kept(const struct srt_sender *s, const struct srt_areas *a)
     return packets_kept(s, a) && losses_kept(b, a);
 }
 
-static bool timer_kept(const struct srt_timer *t)
+static bool timer_kept(const struct phel_timer *t)
 {
     return t->last < BIT(58) && t->period <= 1000000000000000;
 }
 
 /* "timer origins below 2^58, periods at most 10^15"; the EXP count is 1 to 2^32 - 1. */
-bool timers_kept(const struct srt_timers *t)
+bool timers_kept(const struct phel_timers *t)
 {
     return timer_kept(&t->snd) && timer_kept(&t->full_ack) && timer_kept(&t->nak) && timer_kept(&t->exp) &&
            timer_kept(&t->peer_idle) && timer_kept(&t->statistics) && t->exp_count >= 1;

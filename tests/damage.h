@@ -11,7 +11,7 @@ enum { CAP_MOST = 8, SIZE = 16, STATES = 13 };
 /* A sender with what its areas hold. */
 struct state {
     const char *name;
-    struct srt_sender sender;
+    struct phel_sender sender;
     uint64_t ring[CAP_MOST * 6];
     uint32_t lost[CAP_MOST];
     uint8_t store[CAP_MOST * SIZE];

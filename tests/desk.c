@@ -3,27 +3,27 @@
 
 struct desk desk;
 enum side side;
-const struct srt_settings small = {15, 4, 4, 8, 120000, 0, 0x11223344};
+const struct phel_settings small = {15, 4, 4, 8, 120000, 0, 0x11223344};
 static struct area ring, lost, store, records, runs, payload, loss_words, header;
 
 /* Room for the largest settings. */
 void desk_open(void)
 {
-    area_open(&ring, "the ring", SRT_RING_WORDS(SRT_BUFFER_MOST) * 8 + 64);
-    area_open(&lost, "the loss list", SRT_LOST_WORDS(SRT_BUFFER_MOST) * 4 + 64);
-    area_open(&store, "the store", SRT_STORE_BYTES(SRT_BUFFER_MOST, SRT_SIZE_MOST) + 64);
-    area_open(&records, "the records", SRT_RECORDS_BYTES(SRT_BUFFER_MOST, SRT_BUFFER_MOST) + 64);
-    area_open(&runs, "the runs", SRT_RUNS_WORDS(SRT_WORDS_MOST) * 4 + 64);
-    area_open(&payload, "the payload", SRT_MESSAGE_MOST + 64);
-    area_open(&loss_words, "the loss words", (SRT_WORDS_MOST + 16) * 4);
-    area_open(&header, "the header", SRT_HEADER_BYTES);
+    area_open(&ring, "the ring", PHEL_RING_WORDS(PHEL_BUFFER_MOST) * 8 + 64);
+    area_open(&lost, "the loss list", PHEL_LOST_WORDS(PHEL_BUFFER_MOST) * 4 + 64);
+    area_open(&store, "the store", PHEL_STORE_BYTES(PHEL_BUFFER_MOST, PHEL_SIZE_MOST) + 64);
+    area_open(&records, "the records", PHEL_RECORDS_BYTES(PHEL_BUFFER_MOST, PHEL_BUFFER_MOST) + 64);
+    area_open(&runs, "the runs", PHEL_RUNS_WORDS(PHEL_WORDS_MOST) * 4 + 64);
+    area_open(&payload, "the payload", PHEL_MESSAGE_MOST + 64);
+    area_open(&loss_words, "the loss words", (PHEL_WORDS_MOST + 16) * 4);
+    area_open(&header, "the header", PHEL_HEADER_BYTES);
 }
 
 /* Just enough for these settings, a run of |budget| with a full buffer, and a report of |items|. */
-struct lengths lengths_for(const struct srt_settings *c, uint32_t budget, size_t items)
+struct lengths lengths_for(const struct phel_settings *c, uint32_t budget, size_t items)
 {
-    const struct lengths n = {SRT_RING_WORDS(c->buffer), SRT_LOST_WORDS(c->buffer), SRT_STORE_BYTES(c->buffer, c->size),
-                              SRT_RECORDS_BYTES(budget, SRT_CAPACITY(c->buffer)), SRT_RUNS_WORDS(items)};
+    const struct lengths n = {PHEL_RING_WORDS(c->buffer), PHEL_LOST_WORDS(c->buffer), PHEL_STORE_BYTES(c->buffer, c->size),
+                              PHEL_RECORDS_BYTES(budget, PHEL_CAPACITY(c->buffer)), PHEL_RUNS_WORDS(items)};
     return n;
 }
 
@@ -57,17 +57,17 @@ uint32_t *words_at(size_t len)
 
 uint8_t *header_at(void)
 {
-    return area_at(&header, SRT_HEADER_BYTES);
+    return area_at(&header, PHEL_HEADER_BYTES);
 }
 
 /* ---- What the cases share */
 
-void fresh(const struct srt_settings *c, size_t items)
+void fresh(const struct phel_settings *c, size_t items)
 {
     desk_set(lengths_for(c, UINT32_MAX, items));
     memset(desk.lent.ring, 0xa5, desk.lent.ring_len * 8);
     memset(desk.lent.lost, 0xa5, desk.lent.lost_len * 4);
-    check(do_new(c, SRT_MODE_UNLIMITED, 0, 0) == 0, "a fresh sender is refused");
+    check(do_new(c, PHEL_MODE_UNLIMITED, 0, 0) == 0, "a fresh sender is refused");
 }
 
 void set_scene(const char *name)
@@ -75,9 +75,9 @@ void set_scene(const char *name)
     snprintf(scene, sizeof scene, "%s; %s", name, side == AT_END ? "areas at an end" : "areas at a beginning");
 }
 
-struct srt_action action_at(size_t k)
+struct phel_action action_at(size_t k)
 {
-    return srt_action_at(desk.records, k);
+    return phel_action_at(desk.records, k);
 }
 
 int nak_one(uint32_t word)

@@ -2,7 +2,7 @@
 #include <string.h>
 #include "rules.h"
 
-#define FIELD(m) {#m, offsetof(struct srt_sender, m), sizeof(((struct srt_sender *)0)->m)}
+#define FIELD(m) {#m, offsetof(struct phel_sender, m), sizeof(((struct phel_sender *)0)->m)}
 const struct field sender_fields[] = {
     FIELD(settings.first), FIELD(settings.size), FIELD(settings.buffer), FIELD(settings.flow), FIELD(settings.latency),
     FIELD(settings.overhead), FIELD(settings.socket), FIELD(books.ring.cap), FIELD(books.ring.slot),
@@ -21,11 +21,11 @@ bool fields_complete(void)
     size_t bytes = 0;
     for (size_t i = 0; i < sender_fields_len; i++)
         bytes += sender_fields[i].bytes;
-    return sizeof(size_t) != 8 || bytes + 8 == sizeof(struct srt_sender);
+    return sizeof(size_t) != 8 || bytes + 8 == sizeof(struct phel_sender);
 }
 
 /* Whether two senders agree in every field. */
-bool same_sender(const struct srt_sender *a, const struct srt_sender *b)
+bool same_sender(const struct phel_sender *a, const struct phel_sender *b)
 {
     for (size_t i = 0; i < sender_fields_len; i++) {
         const struct field *f = &sender_fields[i];
@@ -35,12 +35,12 @@ bool same_sender(const struct srt_sender *a, const struct srt_sender *b)
     return true;
 }
 
-static bool same_timer(struct srt_timer a, struct srt_timer b)
+static bool same_timer(struct phel_timer a, struct phel_timer b)
 {
     return a.period == b.period && a.last == b.last;
 }
 
-bool same_timers(const struct srt_timers *a, const struct srt_timers *b)
+bool same_timers(const struct phel_timers *a, const struct phel_timers *b)
 {
     return same_timer(a->snd, b->snd) && same_timer(a->full_ack, b->full_ack) && same_timer(a->nak, b->nak) &&
            same_timer(a->exp, b->exp) && a->exp_count == b->exp_count && same_timer(a->peer_idle, b->peer_idle) &&
@@ -49,28 +49,28 @@ bool same_timers(const struct srt_timers *a, const struct srt_timers *b)
 
 /* ---- Answers */
 
-bool same_messaged(const struct srt_messaged *a, const struct srt_messaged *b)
+bool same_messaged(const struct phel_messaged *a, const struct phel_messaged *b)
 {
     return a->made == b->made && a->removed == b->removed && a->bytes == b->bytes && a->period == b->period;
 }
 
-bool same_acked(const struct srt_acked *a, const struct srt_acked *b)
+bool same_acked(const struct phel_acked *a, const struct phel_acked *b)
 {
     return a->received == b->received && a->recovered == b->recovered && a->full == b->full &&
            a->full_number == b->full_number;
 }
 
-bool same_ran(const struct srt_ran *a, const struct srt_ran *b)
+bool same_ran(const struct phel_ran *a, const struct phel_ran *b)
 {
     return a->records == b->records && a->left == b->left;
 }
 
-bool same_found(const struct srt_found *a, const struct srt_found *b)
+bool same_found(const struct phel_found *a, const struct phel_found *b)
 {
     return a->place == b->place && a->len == b->len;
 }
 
-bool same_reports(const struct srt_reports *a, const struct srt_reports *b)
+bool same_reports(const struct phel_reports *a, const struct phel_reports *b)
 {
     return a->is_flushed == b->is_flushed && a->has_packets_to_send == b->has_packets_to_send && a->len == b->len &&
            a->len_bytes == b->len_bytes && a->duration == b->duration;

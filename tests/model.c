@@ -3,7 +3,7 @@
 
 uint64_t *packet(struct copy *w, size_t i)
 {
-    const struct srt_ring *r = &w->sender.books.ring;
+    const struct phel_ring *r = &w->sender.books.ring;
     return w->ring + (r->slot + i) % r->cap * WIDTH;
 }
 
@@ -19,7 +19,7 @@ uint64_t wire_size(struct copy *w, size_t i)
 
 uint32_t unlist(struct copy *w, size_t k)
 {
-    struct srt_books *b = &w->sender.books;
+    struct phel_books *b = &w->sender.books;
     const size_t all = b->lost;
     while (b->lost > 0 && distance(b->front, w->lost[b->lost - 1]) < k)
         b->lost--;
@@ -28,7 +28,7 @@ uint32_t unlist(struct copy *w, size_t k)
 
 uint32_t take_front(struct copy *w, size_t k)
 {
-    struct srt_books *b = &w->sender.books;
+    struct phel_books *b = &w->sender.books;
     const uint32_t gone = unlist(w, k);
     b->front = plus(b->front, k);
     b->sent = b->sent < k ? 0 : b->sent - (uint32_t)k;
@@ -39,7 +39,7 @@ uint32_t take_front(struct copy *w, size_t k)
 
 /* ---- A new sender */
 
-void model_new(struct copy *w, const struct srt_settings *c, uint32_t mode, uint64_t rate, uint64_t overhead)
+void model_new(struct copy *w, const struct phel_settings *c, uint32_t mode, uint64_t rate, uint64_t overhead)
 {
     memset(&w->sender, 0, sizeof w->sender);
     w->sender.settings = *c;
@@ -55,9 +55,9 @@ void model_new(struct copy *w, const struct srt_settings *c, uint32_t mode, uint
 
 /* ---- "ACK" */
 
-void model_ack(struct copy *w, uint32_t number, const uint32_t *full, const struct srt_rtt *rtt, struct srt_acked *a)
+void model_ack(struct copy *w, uint32_t number, const uint32_t *full, const struct phel_rtt *rtt, struct phel_acked *a)
 {
-    struct srt_books *b = &w->sender.books;
+    struct phel_books *b = &w->sender.books;
     a->received = distance(b->front, number);
     for (uint32_t i = 0; i < a->received; i++)
         b->bytes -= wire_size(w, i);
@@ -74,21 +74,21 @@ void model_ack(struct copy *w, uint32_t number, const uint32_t *full, const stru
 
 /* The kind of |number|, and how many numbers from it on are of that kind. "Added if buffered and sent; else Ignored if
  * its distance from next unsent is below 2^30; else Dropped." */
-static uint32_t kind_of(const struct srt_books *b, uint32_t number, uint32_t *count)
+static uint32_t kind_of(const struct phel_books *b, uint32_t number, uint32_t *count)
 {
     const uint32_t ahead = distance(b->front + b->sent, number);
     if (distance(b->front, number) < b->sent) {
         *count = b->sent - distance(b->front, number);
-        return SRT_ADDED;
+        return PHEL_ADDED;
     }
     *count = ahead < 0x40000000 ? 0x40000000 - ahead : distance(number, b->front);
-    return ahead < 0x40000000 ? SRT_IGNORED : SRT_DROPPED;
+    return ahead < 0x40000000 ? PHEL_IGNORED : PHEL_DROPPED;
 }
 
 /* "Added numbers enter the list once." */
 static void enter(struct copy *w, uint32_t number)
 {
-    struct srt_books *b = &w->sender.books;
+    struct phel_books *b = &w->sender.books;
     size_t at = 0;
     while (at < b->lost && distance(b->front, w->lost[at]) > distance(b->front, number))
         at++;
@@ -123,7 +123,7 @@ size_t model_nak(struct copy *w, const uint32_t *words, size_t len)
             const uint32_t kind = kind_of(&w->sender.books, first, &count);
             count = count < left ? count : left;
             n = tell(w->runs, n, kind, first, count);
-            for (uint32_t k = 0; k < count && kind == SRT_ADDED; k++)
+            for (uint32_t k = 0; k < count && kind == PHEL_ADDED; k++)
                 enter(w, plus(first, k));
         }
     }
@@ -133,9 +133,9 @@ size_t model_nak(struct copy *w, const uint32_t *words, size_t len)
 /* ---- Payloads, reports, the header */
 
 /* A payload lies in its packet's slot; a flushed one in the slot that it had. */
-void model_payload(struct copy *w, uint32_t number, struct srt_found *f)
+void model_payload(struct copy *w, uint32_t number, struct phel_found *f)
 {
-    const struct srt_books *b = &w->sender.books;
+    const struct phel_books *b = &w->sender.books;
     const uint32_t i = distance(b->front, number);
     const bool buffered = i < b->ring.len;
     f->place = (buffered ? (b->ring.slot + i) % b->ring.cap : b->held.slot) * w->sender.settings.size;
@@ -144,9 +144,9 @@ void model_payload(struct copy *w, uint32_t number, struct srt_found *f)
 
 /* "flushed, has packets to send, buffered packets, bytes and time (back's time less front's, 0 if negative or nothing
  * is buffered)" */
-void model_reports(struct copy *w, struct srt_reports *r)
+void model_reports(struct copy *w, struct phel_reports *r)
 {
-    const struct srt_books *b = &w->sender.books;
+    const struct phel_books *b = &w->sender.books;
     const size_t len = b->ring.len;
     const uint64_t front = len > 0 ? packet(w, 0)[TIME] : 0, back = len > 0 ? packet(w, len - 1)[TIME] : 0;
     r->is_flushed = len == 0 && b->lost == 0;

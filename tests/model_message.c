@@ -3,7 +3,7 @@
 
 /* ---- "Pacing" */
 
-static void estimate(struct srt_estimate *e, uint64_t elapsed)
+static void estimate(struct phel_estimate *e, uint64_t elapsed)
 {
     const uint64_t rate = e->count * 1000000 / elapsed;
     if (e->mean == 0 && e->variance == 0)
@@ -16,18 +16,18 @@ static void estimate(struct srt_estimate *e, uint64_t elapsed)
 
 /* "the set rate or max(expected, measured), times (100 + overhead) / 100 rounded down; or the maximum; or
  * 125,000,000" */
-static uint64_t allowed(const struct srt_pacing *p)
+static uint64_t allowed(const struct phel_pacing *p)
 {
-    if (p->mode == SRT_MODE_MAX)
+    if (p->mode == PHEL_MODE_MAX)
         return p->rate;
-    if (p->mode == SRT_MODE_UNLIMITED)
+    if (p->mode == PHEL_MODE_UNLIMITED)
         return 125000000;
-    if (p->mode == SRT_MODE_ESTIMATED && p->bytes.mean > p->rate)
+    if (p->mode == PHEL_MODE_ESTIMATED && p->bytes.mean > p->rate)
         return p->bytes.mean * (100 + p->overhead) / 100;
     return p->rate * (100 + p->overhead) / 100;
 }
 
-static uint64_t period_of(const struct srt_pacing *p)
+static uint64_t period_of(const struct phel_pacing *p)
 {
     uint64_t period;
     if (p->packets.mean == 0 || allowed(p) == 0)
@@ -37,7 +37,7 @@ static uint64_t period_of(const struct srt_pacing *p)
 }
 
 /* "the estimate is made before this input is added"; the answer is a new period, or 0. */
-static uint64_t pace(struct srt_pacing *p, uint64_t now, uint64_t packets, uint64_t bytes)
+static uint64_t pace(struct phel_pacing *p, uint64_t now, uint64_t packets, uint64_t bytes)
 {
     uint64_t period = 0;
     if (p->begun == 0) {
@@ -59,9 +59,9 @@ static uint64_t pace(struct srt_pacing *p, uint64_t now, uint64_t packets, uint6
 
 /* Puts a packet at the back: "Pushing into a full buffer first removes the front packet, from the loss list too." */
 static void push(struct copy *w, uint64_t time, uint64_t place, const uint8_t *bytes, size_t len,
-                 struct srt_messaged *m)
+                 struct phel_messaged *m)
 {
-    struct srt_books *b = &w->sender.books;
+    struct phel_books *b = &w->sender.books;
     uint64_t *e;
     if (b->ring.len == b->ring.cap) {
         const uint64_t wire = wire_size(w, 0);
@@ -83,9 +83,9 @@ static void push(struct copy *w, uint64_t time, uint64_t place, const uint8_t *b
 }
 
 void model_message(struct copy *w, uint64_t time, uint64_t now, const uint8_t *payload, size_t len,
-                   struct srt_messaged *m)
+                   struct phel_messaged *m)
 {
-    static const struct srt_held none;
+    static const struct phel_held none;
     const size_t size = w->sender.settings.size;
     memset(m, 0, sizeof *m);
     m->made = len == 0 ? 1 : (len + size - 1) / size;

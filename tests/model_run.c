@@ -2,7 +2,7 @@
 #include "model.h"
 
 /* "Action record, 24 bytes, little-endian" */
-static void record(struct copy *w, struct srt_ran *r, uint64_t kind, uint64_t flags, uint64_t len, uint64_t number,
+static void record(struct copy *w, struct phel_ran *r, uint64_t kind, uint64_t flags, uint64_t len, uint64_t number,
                    uint64_t word, uint64_t stamp, uint64_t time)
 {
     uint8_t *out = w->records + 24 * r->records++;
@@ -12,7 +12,7 @@ static void record(struct copy *w, struct srt_ran *r, uint64_t kind, uint64_t fl
 }
 
 /* A packet is sent: its record. "Every send costs one unit, never below 0." */
-static void sent(struct copy *w, struct srt_ran *r, uint64_t kind, size_t i)
+static void sent(struct copy *w, struct phel_ran *r, uint64_t kind, size_t i)
 {
     const uint64_t *e = packet(w, i);
     record(w, r, kind, e[PLACE] << 6 | (e[COUNT] > 0), e[LENGTH], plus(w->sender.books.front, i), e[MESSAGE],
@@ -22,9 +22,9 @@ static void sent(struct copy *w, struct srt_ran *r, uint64_t kind, size_t i)
 
 /* "set the resend time to now + C on the first transmission, else now + count x C + 10,000, with count the sendings
  * before this one and C = mean + 4 x variance + 20,000; the addition is held at 2^30 - 1" */
-static void sends(struct copy *w, struct srt_ran *r, uint64_t kind, size_t i, uint64_t now)
+static void sends(struct copy *w, struct phel_ran *r, uint64_t kind, size_t i, uint64_t now)
 {
-    const struct srt_rtt *rtt = &w->sender.books.rtt;
+    const struct phel_rtt *rtt = &w->sender.books.rtt;
     const uint64_t c = rtt->mean + 4 * (uint64_t)rtt->variance + 20000;
     uint64_t *e = packet(w, i);
     const uint64_t addition = e[COUNT] == 0 ? c : e[COUNT] * c + 10000;
@@ -64,11 +64,11 @@ static size_t due(struct copy *w, uint64_t now)
 }
 
 /* Rule 6: "send and remove it"; its payload is held. */
-static void flush(struct copy *w, struct srt_ran *r)
+static void flush(struct copy *w, struct phel_ran *r)
 {
-    struct srt_books *b = &w->sender.books;
+    struct phel_books *b = &w->sender.books;
     const uint64_t wire = wire_size(w, 0);
-    sent(w, r, SRT_SEND, 0);
+    sent(w, r, PHEL_SEND, 0);
     b->held.held = 1;
     b->held.number = b->front;
     b->held.slot = b->ring.slot;
@@ -78,37 +78,37 @@ static void flush(struct copy *w, struct srt_ran *r)
 }
 
 /* The first rule that applies; the answer is whether the run goes on. */
-static bool step(struct copy *w, struct srt_ran *r, uint64_t now, bool draining)
+static bool step(struct copy *w, struct phel_ran *r, uint64_t now, bool draining)
 {
-    struct srt_books *b = &w->sender.books;
+    struct phel_books *b = &w->sender.books;
     const size_t gone = late(w, now), again = due(w, now);
     if (gone > 0) {
-        record(w, r, SRT_DROP, 0, 0, b->front, plus(b->front, gone), 0, 0);
+        record(w, r, PHEL_DROP, 0, 0, b->front, plus(b->front, gone), 0, 0);
         take_front(w, gone);
     } else if (b->lost > 0) {
         const uint32_t i = distance(b->front, w->lost[b->lost - 1]);
         unlist(w, i + 1);
-        sends(w, r, SRT_RESEND_BY_LOSS, i, now);
+        sends(w, r, PHEL_RESEND_BY_LOSS, i, now);
     } else if (again < b->sent) {
-        sends(w, r, SRT_RESEND_BY_TIME, again, now);
+        sends(w, r, PHEL_RESEND_BY_TIME, again, now);
     } else if (b->sent > w->sender.settings.flow) {
-        record(w, r, SRT_WAIT_ACK, 0, 0, 0, b->sent, 10000, 0);
+        record(w, r, PHEL_WAIT_ACK, 0, 0, 0, b->sent, 10000, 0);
         return false;
     } else if (b->sent < b->ring.len) {
-        sends(w, r, SRT_SEND, b->sent++, now);
+        sends(w, r, PHEL_SEND, b->sent++, now);
         if (b->sent < b->ring.len && plus(b->front, b->sent) % 16 == 0)
-            sends(w, r, SRT_SEND, b->sent++, now);
+            sends(w, r, PHEL_SEND, b->sent++, now);
     } else if (draining && b->ring.len == 1) {
         flush(w, r);
     } else {
-        record(w, r, SRT_WAIT_INPUT, 0, 0, 0, 0, 0, 0);
+        record(w, r, PHEL_WAIT_INPUT, 0, 0, 0, 0, 0, 0);
         return false;
     }
     return true;
 }
 
 /* "While budget remains, the first that applies". */
-void model_run(struct copy *w, uint64_t now, uint32_t budget, bool draining, struct srt_ran *r)
+void model_run(struct copy *w, uint64_t now, uint32_t budget, bool draining, struct phel_ran *r)
 {
     r->records = 0;
     r->left = budget;

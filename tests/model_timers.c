@@ -7,28 +7,28 @@ static const uint64_t TIME_LIMIT = BIT(58), PERIOD_MOST = 1000000000000000;
 int want_timers_new(uint64_t now, uint64_t statistics, uint64_t idle)
 {
     if (statistics > PERIOD_MOST || idle > PERIOD_MOST)
-        return SRT_BAD_SETTING;
-    return now >= TIME_LIMIT ? SRT_BAD_TIME : 0;
+        return PHEL_BAD_SETTING;
+    return now >= TIME_LIMIT ? PHEL_BAD_TIME : 0;
 }
 
 /* The number that document 01 gives: 1 before 3 before 4 before 8. */
-int want_timers(enum entry e, const struct srt_timers *t, const struct brought *b)
+int want_timers(enum entry e, const struct phel_timers *t, const struct brought *b)
 {
     if (e == E_SND_PERIOD && b->period > PERIOD_MOST)
-        return SRT_BAD_SETTING;
+        return PHEL_BAD_SETTING;
     if (!timers_kept(t))
-        return SRT_BAD_STATE;
+        return PHEL_BAD_STATE;
     if (e == E_UPDATE_RTT)
-        return rtt_kept(&b->rtt) ? 0 : SRT_BAD_RTT;
+        return rtt_kept(&b->rtt) ? 0 : PHEL_BAD_RTT;
     if (e == E_SND_PERIOD)
         return 0;
     if (b->now >= TIME_LIMIT || (e == E_NEXT_TIMER && b->message != NULL && *b->message >= TIME_LIMIT))
-        return SRT_BAD_TIME;
+        return PHEL_BAD_TIME;
     return 0;
 }
 
 /* What a check of one timer finds, and where its origin is then. */
-static uint32_t ticks(struct srt_timer *t, uint64_t now)
+static uint32_t ticks(struct phel_timer *t, uint64_t now)
 {
     uint64_t n;
     if (t->period == 0)
@@ -43,7 +43,7 @@ static uint32_t ticks(struct srt_timer *t, uint64_t now)
 }
 
 /* "The idle timer moves on even where EXP count 16 or less keeps it silent." */
-static uint32_t idle_ticks(struct srt_timers *t, uint64_t now)
+static uint32_t idle_ticks(struct phel_timers *t, uint64_t now)
 {
     uint32_t idle;
     if (ticks(&t->exp, now) == 0)
@@ -67,7 +67,7 @@ static uint64_t less(uint64_t a, uint64_t b)
 }
 
 /* "RTT periods are as calculate_periods; EXP is held at 10^15" */
-static void set_periods(struct srt_timers *t, struct srt_rtt r)
+static void set_periods(struct phel_timers *t, struct phel_rtt r)
 {
     const uint64_t mean = r.mean * (uint64_t)1000, variance = r.variance * (uint64_t)1000;
     const uint64_t one = more(4 * mean + variance + 10000000, 300000000);
@@ -77,7 +77,7 @@ static void set_periods(struct srt_timers *t, struct srt_rtt r)
 }
 
 /* Does to |*t| what an accepted call that checks or sets does, and answers what it finds. */
-uint32_t model_timers(enum entry e, struct srt_timers *t, const struct brought *b)
+uint32_t model_timers(enum entry e, struct phel_timers *t, const struct brought *b)
 {
     switch (e) {
     case E_CHECK_SND: return ticks(&t->snd, b->now);
@@ -96,14 +96,14 @@ uint32_t model_timers(enum entry e, struct srt_timers *t, const struct brought *
     return 0;
 }
 
-static uint64_t due(const struct srt_timer *t)
+static uint64_t due(const struct phel_timer *t)
 {
     return t->last + t->period;
 }
 
 /* The next wake-up: NAK and EXP always, the message where it is known, ACK where packets are unacknowledged, SND where
  * there are packets to send; never before now. */
-uint64_t model_next_timer(const struct srt_timers *t, const struct brought *b, bool packets, uint32_t unacked)
+uint64_t model_next_timer(const struct phel_timers *t, const struct brought *b, bool packets, uint32_t unacked)
 {
     uint64_t at = less(due(&t->nak), due(&t->exp));
     if (b->message != NULL)
@@ -116,9 +116,9 @@ uint64_t model_next_timer(const struct srt_timers *t, const struct brought *b, b
 }
 
 /* "A new timer's period is at least 1,000"; the others are those of the RTT at start. */
-void model_timers_new(struct srt_timers *t, uint64_t now, uint64_t statistics, uint64_t idle)
+void model_timers_new(struct phel_timers *t, uint64_t now, uint64_t statistics, uint64_t idle)
 {
-    const struct srt_rtt start = {100000, 50000};
+    const struct phel_rtt start = {100000, 50000};
     memset(t, 0, sizeof *t);
     t->snd.last = t->full_ack.last = t->nak.last = t->exp.last = t->peer_idle.last = t->statistics.last = now;
     t->exp_count = 1;

@@ -37,8 +37,8 @@ void areas_watch(void);
 
 /* A sender and all that is lent with it. The lists for answers are of the lengths that the next call is to get. */
 struct desk {
-    struct srt_sender sender;
-    struct srt_areas lent;
+    struct phel_sender sender;
+    struct phel_areas lent;
     uint8_t *records;
     size_t records_len;
     uint32_t *runs;
@@ -55,23 +55,23 @@ struct lengths {
 };
 
 void desk_open(void);
-struct lengths lengths_for(const struct srt_settings *c, uint32_t budget, size_t items);
+struct lengths lengths_for(const struct phel_settings *c, uint32_t budget, size_t items);
 void desk_set(struct lengths n);
 uint8_t *payload_at(size_t len);
 uint32_t *words_at(size_t len);
 uint8_t *header_at(void);
 
 /* Packets of four bytes, a buffer of four. */
-extern const struct srt_settings small;
+extern const struct phel_settings small;
 
 /* Makes the desk's sender a fresh one, with areas of just the size that it needs. */
-void fresh(const struct srt_settings *c, size_t items);
+void fresh(const struct phel_settings *c, size_t items);
 
 /* Names the case, for a failure's line. */
 void set_scene(const char *name);
 
 /* Record |k| of the last run. */
-struct srt_action action_at(size_t k);
+struct phel_action action_at(size_t k);
 
 /* Reports of one word and of two. */
 int nak_one(uint32_t word);
@@ -92,7 +92,7 @@ bool with_answer(void);
 want *asked_why(void);
 
 /* The areas as document 01 judges them: NULL is an area of length 0, whatever its length says. */
-const struct srt_areas *seen(void);
+const struct phel_areas *seen(void);
 
 /* Holds a call's number against what was wanted, and what a refused one left against the copy. */
 int settle(enum entry e, int number, want w);
@@ -106,18 +106,18 @@ void check_left(int number, const void *answer, size_t bytes);
 
 /* Whether a refused call is made once more by the entry, which takes no NULL; and that it gave back what it got. */
 bool once_more(int number);
-void given_back(int number, const want *told, const struct srt_sender *sender);
+void given_back(int number, const want *told, const struct phel_sender *sender);
 
 /* ---- calls.c */
 
-int do_new(const struct srt_settings *c, uint32_t mode, uint64_t rate, uint64_t overhead);
+int do_new(const struct phel_settings *c, uint32_t mode, uint64_t rate, uint64_t overhead);
 int do_message(uint64_t time, uint64_t now, const uint8_t *payload, size_t len,
-               struct srt_messaged *answer);
-int do_ack(uint32_t number, const uint32_t *full, const struct srt_rtt *rtt, struct srt_acked *answer);
+               struct phel_messaged *answer);
+int do_ack(uint32_t number, const uint32_t *full, const struct phel_rtt *rtt, struct phel_acked *answer);
 int do_nak(const uint32_t *words, size_t len, size_t *answer);
-int do_run(uint64_t now, uint32_t budget, bool draining, struct srt_ran *answer);
-int do_payload(uint32_t number, struct srt_found *answer);
-int do_reports(struct srt_reports *answer);
+int do_run(uint64_t now, uint32_t budget, bool draining, struct phel_ran *answer);
+int do_payload(uint32_t number, struct phel_found *answer);
+int do_reports(struct phel_reports *answer);
 void do_header(uint8_t *out, uint32_t place, bool again, uint32_t number, uint32_t message, uint32_t stamp,
                uint32_t socket);
 

@@ -26,10 +26,10 @@ static void random_nak(uint32_t near, uint32_t reach)
 
 static void random_call(uint64_t *now, uint32_t reach)
 {
-    const struct srt_books *b = &desk.sender.books;
+    const struct phel_books *b = &desk.sender.books;
     const uint32_t near = (b->front + (uint32_t)any(reach) - 3) & 0x7fffffff;
     const uint32_t full = (uint32_t)(b->expected + any(4) - 1);
-    const struct srt_rtt rtt = {(uint32_t)any(200000), (uint32_t)any(100000)};
+    const struct phel_rtt rtt = {(uint32_t)any(200000), (uint32_t)any(100000)};
     const size_t len = any(4) == 0 ? 0 : any(10 * reach);
     *now += any(any(40) == 0 ? 2000000 : 20000);
     switch (any(12)) {
@@ -47,13 +47,13 @@ void random_cases(void)
 {
     for (int session = 0; session < 600; session++) {
         const uint32_t reach = session % 3 == 0 ? 70 : 12, mode = (uint32_t)any(4);
-        const struct srt_settings c = {(uint32_t)(0x80000000u - 1 - any(90)), 1 + (uint32_t)any(20),
+        const struct phel_settings c = {(uint32_t)(0x80000000u - 1 - any(90)), 1 + (uint32_t)any(20),
                                        (uint32_t)any(reach), (uint32_t)any(reach), (uint32_t)any(1200000),
                                        (uint32_t)any(129), 1};
         uint64_t now = any(BIT(33));
         side = session % 2 == 0 ? AT_END : AT_BEGIN;
         fresh(&c, 4);
-        do_new(&c, mode, mode == SRT_MODE_UNLIMITED ? 0 : any(BIT(any(41))), mode < 2 ? any(300) : 0);
+        do_new(&c, mode, mode == PHEL_MODE_UNLIMITED ? 0 : any(BIT(any(41))), mode < 2 ? any(300) : 0);
         for (int call = 0; call < 250; call++) {
             snprintf(scene, sizeof scene, "random session %d, call %d", session, call);
             random_call(&now, reach);

@@ -28,7 +28,7 @@ void state_put(const struct state *s)
 
 static void begin(uint32_t buffer, uint32_t mode, uint64_t rate, uint64_t overhead)
 {
-    const struct srt_settings c = {0x7ffffffd, SIZE, buffer, 8, 120000, 8, 0x11223344};
+    const struct phel_settings c = {0x7ffffffd, SIZE, buffer, 8, 120000, 8, 0x11223344};
     lent = lengths_for(&c, UINT32_MAX, 3);
     desk_set(lent);
     memset(desk.lent.ring, 0x5a, lent.ring * 8);
@@ -49,7 +49,7 @@ static void lose(uint32_t number)
 
 static void make_small(void)
 {
-    begin(5, SRT_MODE_UNLIMITED, 0, 0);
+    begin(5, PHEL_MODE_UNLIMITED, 0, 0);
     take(&states[0], "empty");
     bring(1000, 3);
     take(&states[1], "three unsent, pacing begun");
@@ -72,20 +72,20 @@ static void make_small(void)
 
 static void make_others(void)
 {
-    begin(5, SRT_MODE_INPUT, 1000000, 25);
+    begin(5, PHEL_MODE_INPUT, 1000000, 25);
     bring(1000, 1);
     do_run(2000, 4, true, NULL);
     take(&states[7], "a flushed packet held");
-    begin(5, SRT_MODE_ESTIMATED, 1000, 10000);
+    begin(5, PHEL_MODE_ESTIMATED, 1000, 10000);
     for (uint64_t i = 0; i < 6; i++)
         bring(1000 + i * 70000, 2);
     take(&states[8], "estimates made");
-    begin(0, SRT_MODE_MAX, BIT(40), 0);
+    begin(0, PHEL_MODE_MAX, BIT(40), 0);
     bring(1000, 1);
     do_run(1000, 1, false, NULL);
     lose(0x7ffffffd);
     take(&states[9], "a buffer of 0");
-    begin(8, SRT_MODE_MAX, 5, 0);
+    begin(8, PHEL_MODE_MAX, 5, 0);
     bring(1000, 8);
     do_run(1000, 20, false, NULL);
     do_ack(2, NULL, NULL, NULL);
@@ -99,7 +99,7 @@ static void make_others(void)
 static void make_ends(void)
 {
     struct state *s = &states[11];
-    const struct srt_estimate full = {BIT(38), BIT(42), BIT(42)};
+    const struct phel_estimate full = {BIT(38), BIT(42), BIT(42)};
     *s = states[3];
     s->name = "a packet held beside others";
     s->sender.books.held.held = 1;

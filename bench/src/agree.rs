@@ -2,7 +2,7 @@
 //! must be equal, so that the same work is measured.
 
 use calls::{Run, Sender};
-use srt_repaired::judge::Judge;
+use phel_repaired::judge::Judge;
 
 use crate::{
     library::{prepare, Library, Told},

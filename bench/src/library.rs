@@ -117,7 +117,7 @@ impl Library {
             s.overhead,
             s.id,
         ];
-        // Sound: the seven numbers are as struct srt_settings has them.
+        // Sound: the seven numbers are as struct phel_settings has them.
         let lent = unsafe { lent_new(&words) };
         assert!(!lent.is_null(), "the settings are refused");
         Library(lent)

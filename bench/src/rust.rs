@@ -4,7 +4,7 @@ use std::time::{Duration, Instant};
 
 use bytes::Bytes;
 use calls::{Reports, Settings};
-use srt_repaired::{
+use phel_repaired::{
     connection::{ConnectionSettings, ConnectionStatus},
     options::{LiveBandwidthMode, PacketCount, PacketSize},
     packet::{Acknowledgement, CompressedLossList, FullAckSeqNumber, SeqNumber, SocketId},

@@ -1,15 +1,15 @@
-//! Links the proved library where compare/run has it: `SRT_ARCHIVES` names the
-//! folder of libsrt_sender.a and libleaves.a. Without both the crate has nothing
+//! Links the proved library where compare/run has it: `PHEL_ARCHIVES` names the
+//! folder of libphelgomrit.a and libleaves.a. Without both the crate has nothing
 //! to give.
 
 use std::{env, path::Path};
 
-const ARCHIVES: [&str; 2] = ["srt_sender", "leaves"];
+const ARCHIVES: [&str; 2] = ["phelgomrit", "compare_entries"];
 
 fn main() {
     println!("cargo::rustc-check-cfg=cfg(linked)");
-    println!("cargo::rerun-if-env-changed=SRT_ARCHIVES");
-    let folder = env::var("SRT_ARCHIVES").unwrap_or_default();
+    println!("cargo::rerun-if-env-changed=PHEL_ARCHIVES");
+    let folder = env::var("PHEL_ARCHIVES").unwrap_or_default();
     let archive = |name: &str| Path::new(&folder).join(format!("lib{name}.a"));
     if folder.is_empty() || !ARCHIVES.iter().all(|name| archive(name).is_file()) {
         return;

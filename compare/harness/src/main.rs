@@ -134,11 +134,11 @@ fn judged(slow: bool, work: impl FnOnce() -> Result<(), ()>) -> ExitCode {
 }
 
 /// The files compiled into the unmodified copy are those in the folder that
-/// SRT_FILES names, byte by byte; the repaired copy differs in one of them.
+/// PHEL_FILES names, byte by byte; the repaired copy differs in one of them.
 fn compiled_files() -> Result<(), String> {
-    let folder = env::var("SRT_FILES").map_err(|_| "SRT_FILES is not set")?;
+    let folder = env::var("PHEL_FILES").map_err(|_| "PHEL_FILES is not set")?;
     let mut repaired = Vec::new();
-    let pairs = srt_unmodified::FILES.iter().zip(srt_repaired::FILES);
+    let pairs = phel_unmodified::FILES.iter().zip(phel_repaired::FILES);
     for ((name, bytes), (_, repaired_bytes)) in pairs {
         let path = Path::new(&folder).join(name);
         let there = fs::read(&path).map_err(|fault| format!("{}: {fault}", path.display()))?;
@@ -154,7 +154,7 @@ fn compiled_files() -> Result<(), String> {
     }
     println!(
         "files compiled as they stand: {}; repaired: buffer.rs",
-        srt_unmodified::FILES.len()
+        phel_unmodified::FILES.len()
     );
     Ok(())
 }

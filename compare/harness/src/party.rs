@@ -24,8 +24,8 @@ pub fn unmodified() -> Party {
     Party {
         name: "unmodified",
         refuses: false,
-        make: Box::new(|settings| Ok(Box::new(srt_unmodified::judge::Judge::new(settings)))),
-        leaves: Box::new(srt_unmodified::judge::LeavesJudge::default()),
+        make: Box::new(|settings| Ok(Box::new(phel_unmodified::judge::Judge::new(settings)))),
+        leaves: Box::new(phel_unmodified::judge::LeavesJudge::default()),
     }
 }
 
@@ -33,8 +33,8 @@ pub fn repaired() -> Party {
     Party {
         name: "repaired",
         refuses: false,
-        make: Box::new(|settings| Ok(Box::new(srt_repaired::judge::Judge::new(settings)))),
-        leaves: Box::new(srt_repaired::judge::LeavesJudge::default()),
+        make: Box::new(|settings| Ok(Box::new(phel_repaired::judge::Judge::new(settings)))),
+        leaves: Box::new(phel_repaired::judge::LeavesJudge::default()),
     }
 }
 

@@ -20,7 +20,7 @@ use crate::{
     record,
 };
 
-const FOLDER: &str = "SRT_SAMPLE";
+const FOLDER: &str = "PHEL_SAMPLE";
 /// A message that splits into more packets makes too long a line.
 const MOST_PACKETS: u32 = 40;
 /// From here on document 01 holds the period and the Rust doesn't.

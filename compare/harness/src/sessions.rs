@@ -30,7 +30,7 @@ payload 18
 reports
 ";
 
-const FOLDER: &str = "SRT_SESSIONS";
+const FOLDER: &str = "PHEL_SESSIONS";
 /// The largest capacity and packet size that the program's areas have room for.
 const CAPACITY_MOST: u32 = 64;
 const SIZE_MOST: u32 = 64;

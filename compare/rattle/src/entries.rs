@@ -1,4 +1,4 @@
-//! The sender's entries of the crate `srt_sender`, declared as its source has
+//! The sender's entries of the crate `phelgomrit`, declared as its source has
 //! them, each with a safe call. A lent area crosses as a pointer and how many
 //! elements it has.
 
@@ -31,8 +31,8 @@ mod declared {
     use super::*;
 
     extern "C" {
-        pub fn srt_entry_new(settings: Settings, mode: u32, rate: u64, overhead: u64) -> NewAnswer;
-        pub fn srt_entry_message(
+        pub fn phel_entry_new(settings: Settings, mode: u32, rate: u64, overhead: u64) -> NewAnswer;
+        pub fn phel_entry_message(
             given: Flat,
             time: u64,
             now: u64,
@@ -45,7 +45,7 @@ mod declared {
             store: *mut u8,
             store_len: usize,
         ) -> MessageAnswer;
-        pub fn srt_entry_ack(
+        pub fn phel_entry_ack(
             given: Flat,
             number: u32,
             full: bool,
@@ -57,7 +57,7 @@ mod declared {
             lost: *const u32,
             lost_len: usize,
         ) -> AckAnswer;
-        pub fn srt_entry_nak(
+        pub fn phel_entry_nak(
             given: Flat,
             words: *const u32,
             words_len: usize,
@@ -68,7 +68,7 @@ mod declared {
             out: *mut u32,
             out_len: usize,
         ) -> NakAnswer;
-        pub fn srt_entry_run(
+        pub fn phel_entry_run(
             given: Flat,
             now: u64,
             budget: u32,
@@ -80,7 +80,7 @@ mod declared {
             out: *mut u8,
             out_len: usize,
         ) -> RunAnswer;
-        pub fn srt_entry_payload(
+        pub fn phel_entry_payload(
             given: Flat,
             number: u32,
             ring: *const u64,
@@ -90,7 +90,7 @@ mod declared {
             store: *const u8,
             store_len: usize,
         ) -> PayloadAnswer;
-        pub fn srt_entry_reports(
+        pub fn phel_entry_reports(
             given: Flat,
             ring: *const u64,
             ring_len: usize,
@@ -102,7 +102,7 @@ mod declared {
 
 pub fn new(settings: Settings, mode: u32, rate: u64, overhead: u64) -> NewAnswer {
     // Sound for any numbers: the entry is proved to require nothing.
-    unsafe { declared::srt_entry_new(settings, mode, rate, overhead) }
+    unsafe { declared::phel_entry_new(settings, mode, rate, overhead) }
 }
 
 pub fn message(
@@ -119,7 +119,7 @@ pub fn message(
     // Sound: the pointers are of slices as long as said, the written ones borrowed
     // alone; the entry is proved to require nothing more.
     unsafe {
-        declared::srt_entry_message(
+        declared::phel_entry_message(
             given, time, now, bytes, len, ring, ring_len, lost, lost_len, store, store_len,
         )
     }
@@ -138,7 +138,7 @@ pub fn ack(given: Flat, brought: Brought, lent: &mut Areas) -> AckAnswer {
     let (lost, lost_len) = (lent.lost.as_ptr(), lent.lost.len());
     // Sound, as in `message`.
     unsafe {
-        declared::srt_entry_ack(
+        declared::phel_entry_ack(
             given, number, with_full, full, measured, rtt, ring, ring_len, lost, lost_len,
         )
     }
@@ -151,7 +151,7 @@ pub fn nak(given: Flat, words: &[u32], lent: &mut Areas, out: &mut [u32]) -> Nak
     let (runs, runs_len) = (out.as_mut_ptr(), out.len());
     // Sound, as in `message`.
     unsafe {
-        declared::srt_entry_nak(
+        declared::phel_entry_nak(
             given, word, words_len, ring, ring_len, lost, lost_len, runs, runs_len,
         )
     }
@@ -170,7 +170,7 @@ pub fn run(
     let (list, list_len) = (out.as_mut_ptr(), out.len());
     // Sound, as in `message`.
     unsafe {
-        declared::srt_entry_run(
+        declared::phel_entry_run(
             given, now, budget, draining, ring, ring_len, lost, lost_len, list, list_len,
         )
     }
@@ -182,7 +182,7 @@ pub fn payload(given: Flat, number: u32, lent: &mut Areas) -> PayloadAnswer {
     let (store, store_len) = (lent.store.as_mut_ptr(), lent.store.len());
     // Sound, as in `message`.
     unsafe {
-        declared::srt_entry_payload(
+        declared::phel_entry_payload(
             given, number, ring, ring_len, lost, lost_len, store, store_len,
         )
     }
@@ -192,5 +192,5 @@ pub fn reports(given: Flat, lent: &mut Areas) -> ReportsAnswer {
     let (ring, ring_len) = (lent.ring.as_mut_ptr(), lent.ring.len());
     let (lost, lost_len) = (lent.lost.as_mut_ptr(), lent.lost.len());
     // Sound, as in `message`.
-    unsafe { declared::srt_entry_reports(given, ring, ring_len, lost, lost_len) }
+    unsafe { declared::phel_entry_reports(given, ring, ring_len, lost, lost_len) }
 }

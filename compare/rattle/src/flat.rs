@@ -1,4 +1,4 @@
-//! What the sender's entries take and give, laid out as include/srt_sender.h has
+//! What the sender's entries take and give, laid out as include/phelgomrit.h has
 //! it.
 
 use crate::library::{Pacing, Rtt};

@@ -1,5 +1,5 @@
 //! The functions that take no lent area, declared as their sources have them,
-//! each with a safe call: those of the crate `leaves`, and of `srt_sender` the
+//! each with a safe call: those of the crate `leaves`, and of `phelgomrit` the
 //! timers' and the header's. They take and give plain numbers, require nothing
 //! and keep no pointer.
 
@@ -119,24 +119,24 @@ exported! {
     leaves_timer_reset timer_reset(timer: Timer, now: u64) -> TimerAnswer;
     leaves_timer_set_period timer_set_period(timer: Timer, period: u64) -> TimerAnswer;
     leaves_timer_check_expired timer_check_expired(timer: Timer, now: u64) -> TimerAnswer;
-    srt_entry_timers_new timers_new(now: u64, statistics: u64, idle: u64) -> TimersAnswer;
-    srt_entry_timers_next_timer timers_next_timer(
+    phel_entry_timers_new timers_new(now: u64, statistics: u64, idle: u64) -> TimersAnswer;
+    phel_entry_timers_next_timer timers_next_timer(
         timers: Timers, now: u64, packets: bool, known: bool, message: u64, unacked: u32
     ) -> NanosecondsAnswer;
-    srt_entry_timers_check_snd timers_check_snd(timers: Timers, now: u64) -> TimersAnswer;
-    srt_entry_timers_check_full_ack timers_check_full_ack(timers: Timers, now: u64) -> TimersAnswer;
-    srt_entry_timers_check_nak timers_check_nak(timers: Timers, now: u64) -> TimersAnswer;
-    srt_entry_timers_check_statistics timers_check_statistics(
+    phel_entry_timers_check_snd timers_check_snd(timers: Timers, now: u64) -> TimersAnswer;
+    phel_entry_timers_check_full_ack timers_check_full_ack(timers: Timers, now: u64) -> TimersAnswer;
+    phel_entry_timers_check_nak timers_check_nak(timers: Timers, now: u64) -> TimersAnswer;
+    phel_entry_timers_check_statistics timers_check_statistics(
         timers: Timers, now: u64
     ) -> TimersAnswer;
-    srt_entry_timers_check_peer_idle_timeout timers_check_peer_idle_timeout(
+    phel_entry_timers_check_peer_idle_timeout timers_check_peer_idle_timeout(
         timers: Timers, now: u64
     ) -> TimersAnswer;
-    srt_entry_timers_update_snd_period timers_update_snd_period(
+    phel_entry_timers_update_snd_period timers_update_snd_period(
         timers: Timers, period: u64
     ) -> TimersAnswer;
-    srt_entry_timers_update_rtt timers_update_rtt(timers: Timers, rtt: Rtt) -> TimersAnswer;
-    srt_entry_timers_reset_exp timers_reset_exp(timers: Timers, now: u64) -> TimersAnswer;
+    phel_entry_timers_update_rtt timers_update_rtt(timers: Timers, rtt: Rtt) -> TimersAnswer;
+    phel_entry_timers_reset_exp timers_reset_exp(timers: Timers, now: u64) -> TimersAnswer;
     leaves_pacing_new pacing_new(mode: u32, rate: u64, overhead: u64) -> PacingAnswer;
     leaves_pacing_on_input pacing_on_input(
         pacing: Pacing, now: u64, packets: u64, bytes: u64
@@ -146,7 +146,7 @@ exported! {
 }
 
 extern "C" {
-    fn srt_entry_header(
+    fn phel_entry_header(
         out: *mut [u8; 16],
         place: u32,
         again: bool,
@@ -160,6 +160,6 @@ extern "C" {
 pub fn header(place: u32, again: bool, number: u32, message: u32, stamp: u32, id: u32) -> [u8; 16] {
     let mut out = [0xa5; 16];
     // Sound for any numbers: it writes the sixteen bytes that it is lent.
-    unsafe { srt_entry_header(&mut out, place, again, number, message, stamp, id) };
+    unsafe { phel_entry_header(&mut out, place, again, number, message, stamp, id) };
     out
 }

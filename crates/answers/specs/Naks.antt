@@ -13,7 +13,7 @@ use Rattle.refusals.specs.declared.Verdict.{Verdict}
 use Rattle.refusals.specs.Verdict.{answer}
 use Rattle.rules.specs.Losses.{wordsOf}
 use Rattle.rules.specs.Refusals.{wordsVerdict}
-use Rattle.report.specs.Report.{Left, add}
+use Rattle.buffer_nak.specs.Report.{Left, add}
 use Rattle.sender.specs.declared.Sender.{Sender}
 use Rattle.sender.specs.Books.{Books, judgeAreas}
 use Rattle.sender.specs.Calls.{senderOf, then}

@@ -15,7 +15,7 @@ use refusals::Refusal;
 use refusals::Verdict;
 use sender::Sender;
 use sender::judging;
-use words::Report;
+use loss_words::Report;
 
 // The answer of `nak`: the sender from then on, and how many runs the lent list holds. Where it is refused the caller's sender stands.
 pub enum Reported {
@@ -55,7 +55,7 @@ pub enum Told {
 fn judge_words(words: &[u32], room: usize) -> Verdict
     ensures { λ r. ⌜ r ≡ wordsVerdict (wordsOf (now (words .entry))) (room / 3) ⌝ }
 {
-    match words::judge(words) {
+    match loss_words::judge(words) {
         Report::BadNak(index) => Verdict::Refused(Refusal::BadNak { index }),
         Report::Items(n) => { refusals::when(room / 9 < n, Refusal::NoRoom, Verdict::Accepted) }
     }
@@ -81,7 +81,7 @@ pub fn nak(s: Sender, words: &[u32], ring: &[u64], lost: &mut [u32], out: &mut [
         Verdict::Accepted => {
             let settings = s.settings;
             let pacing = s.pacing;
-            let r = report::add_to_loss_list(s.buffer, words, lost, out);
+            let r = buffer_nak::add_to_loss_list(s.buffer, words, lost, out);
             let buffer = r.buffer;
             Reported::Done(
                 Sender {

@@ -7,7 +7,7 @@ pub mod Laws
 use Prim.Native.Nat.{ℕ, _-_}
 use Rattle.numbers.specs.Modular.{seqs, plus, dist}
 use Rattle.ring.specs.Ring as ring
-use Rattle.losses.specs.LossList as list
+use Rattle.loss_list.specs.LossList as list
 use Rattle.buffer.specs.State.{State, put}
 
 -- the new front, and its distance from the old one

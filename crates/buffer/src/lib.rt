@@ -230,7 +230,7 @@ impl SendBuffer {
         let ring = self.ring;
         let front = self.front;
         let to = front.plus(k as u32);
-        let listed = losses::remove_below(lost, self.lost, front, to);
+        let listed = loss_list::remove_below(lost, self.lost, front, to);
         let rest = ring.remove_front(k);
         let sent = less(self.sent, k as u32);
         self.put(rest, to, sent, listed, bytes)

@@ -20,10 +20,10 @@ use Rattle.rules.specs.Calls as rules
 use Rattle.rules.specs.Sender.{Sender}
 use Rattle.buffer.specs.declared.Settings.{Settings}
 use Rattle.buffer.specs.State.{settingsOf, fresh}
-use Rattle.ack.specs.declared.FullAck.{FullAck}
-use Rattle.ack.specs.declared.FullAck.the-variants as full
-use Rattle.ack.specs.declared.AckRtt.{AckRtt}
-use Rattle.ack.specs.Ack.{fullOf, rttOf}
+use Rattle.buffer_ack.specs.declared.FullAck.{FullAck}
+use Rattle.buffer_ack.specs.declared.FullAck.the-variants as full
+use Rattle.buffer_ack.specs.declared.AckRtt.{AckRtt}
+use Rattle.buffer_ack.specs.Ack.{fullOf, rttOf}
 use Rattle.sender.specs.Books.{Books, books, rulesOf}
 use Rattle.sender.specs.Calls as Messages
 use Rattle.sender.specs.Calls.{senderOf}

@@ -1,9 +1,9 @@
 // Answers a stored script of calls of the leaves: 64 bytes in for each call, a line out. The gate holds the lines against crates/replay/stdout,
 // which the Rust wrote (compare/README.md, "The stored sample"), so that a clone without the Rust still hears what it answers.
-use flat::pacings::FlatPacing;
-use leaves::of_pacing::leaves_pacing_new;
-use leaves::of_timer::leaves_timer_new;
-use srt_sender::of_timers::srt_entry_timers_new;
+use host_structs::pacings::FlatPacing;
+use compare_entries::of_pacing::leaves_pacing_new;
+use compare_entries::of_timer::leaves_timer_new;
+use phelgomrit::of_timers::phel_entry_timers_new;
 use stored::Record;
 use timer::Timer;
 use timers::Timers;
@@ -29,7 +29,7 @@ struct Turn {
 
 fn start() -> Bench {
     let one = leaves_timer_new(0, 0);
-    let all = srt_entry_timers_new(0, 0, 0);
+    let all = phel_entry_timers_new(0, 0, 0);
     let pace = leaves_pacing_new(3, 0, 0);
     let timer = one.timer;
     let timers = all.timers;

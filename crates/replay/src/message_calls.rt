@@ -1,8 +1,8 @@
 // Splitting, and headers.
 use crate::show;
-use leaves::of_message::leaves_split_packet;
-use leaves::of_message::leaves_split_packets;
-use srt_sender::of_packet::srt_entry_header;
+use compare_entries::of_message::leaves_split_packet;
+use compare_entries::of_message::leaves_split_packets;
+use phelgomrit::of_packet::phel_entry_header;
 use stored::Record;
 use stored::low;
 
@@ -40,7 +40,7 @@ fn show_bytes(bytes: [u8; 16]) {
 
 fn header(r: Record) {
     let mut out = [0u8; 16];
-    srt_entry_header(
+    phel_entry_header(
         &mut out,
         low(r.b),
         r.c == 1,

@@ -1,9 +1,9 @@
 // The calls of pacing.
 use crate::show;
-use flat::pacings::FlatPacing;
-use leaves::of_pacing::PacingAnswer;
-use leaves::of_pacing::leaves_pacing_new;
-use leaves::of_pacing::leaves_pacing_on_input;
+use host_structs::pacings::FlatPacing;
+use compare_entries::of_pacing::PacingAnswer;
+use compare_entries::of_pacing::leaves_pacing_new;
+use compare_entries::of_pacing::leaves_pacing_on_input;
 use rate::RateEstimation;
 use stored::Record;
 use stored::low;

@@ -1,13 +1,13 @@
 // The calls of one timer.
 use crate::show;
-use flat_timers::NanosecondsAnswer;
-use leaves::of_timer::TimerAnswer;
-use leaves::of_timer::leaves_timer_check_expired;
-use leaves::of_timer::leaves_timer_new;
-use leaves::of_timer::leaves_timer_next_instant;
-use leaves::of_timer::leaves_timer_period;
-use leaves::of_timer::leaves_timer_reset;
-use leaves::of_timer::leaves_timer_set_period;
+use host_timers::NanosecondsAnswer;
+use compare_entries::of_timer::TimerAnswer;
+use compare_entries::of_timer::leaves_timer_check_expired;
+use compare_entries::of_timer::leaves_timer_new;
+use compare_entries::of_timer::leaves_timer_next_instant;
+use compare_entries::of_timer::leaves_timer_period;
+use compare_entries::of_timer::leaves_timer_reset;
+use compare_entries::of_timer::leaves_timer_set_period;
 use stored::Record;
 use timer::Timer;
 

@@ -2,29 +2,29 @@
 use crate::show;
 use crate::timer_calls::show_nanoseconds;
 use crate::timer_calls::show_timer;
-use flat_timers::TimersAnswer;
+use host_timers::TimersAnswer;
 use rtt::Rtt;
-use srt_sender::of_timers::srt_entry_timers_check_full_ack;
-use srt_sender::of_timers::srt_entry_timers_check_nak;
-use srt_sender::of_timers::srt_entry_timers_check_peer_idle_timeout;
-use srt_sender::of_timers::srt_entry_timers_check_snd;
-use srt_sender::of_timers::srt_entry_timers_check_statistics;
-use srt_sender::of_timers::srt_entry_timers_new;
-use srt_sender::of_timers::srt_entry_timers_next_timer;
-use srt_sender::of_timers::srt_entry_timers_reset_exp;
-use srt_sender::of_timers::srt_entry_timers_update_rtt;
-use srt_sender::of_timers::srt_entry_timers_update_snd_period;
+use phelgomrit::of_timers::phel_entry_timers_check_full_ack;
+use phelgomrit::of_timers::phel_entry_timers_check_nak;
+use phelgomrit::of_timers::phel_entry_timers_check_peer_idle_timeout;
+use phelgomrit::of_timers::phel_entry_timers_check_snd;
+use phelgomrit::of_timers::phel_entry_timers_check_statistics;
+use phelgomrit::of_timers::phel_entry_timers_new;
+use phelgomrit::of_timers::phel_entry_timers_next_timer;
+use phelgomrit::of_timers::phel_entry_timers_reset_exp;
+use phelgomrit::of_timers::phel_entry_timers_update_rtt;
+use phelgomrit::of_timers::phel_entry_timers_update_snd_period;
 use stored::Record;
 use stored::low;
 use timers::Timers;
 
 fn check(timers: Timers, which: u64, now: u64) -> TimersAnswer {
     match which {
-        0 => srt_entry_timers_check_snd(timers, now),
-        1 => srt_entry_timers_check_full_ack(timers, now),
-        2 => srt_entry_timers_check_nak(timers, now),
-        3 => srt_entry_timers_check_peer_idle_timeout(timers, now),
-        _ => srt_entry_timers_check_statistics(timers, now),
+        0 => phel_entry_timers_check_snd(timers, now),
+        1 => phel_entry_timers_check_full_ack(timers, now),
+        2 => phel_entry_timers_check_nak(timers, now),
+        3 => phel_entry_timers_check_peer_idle_timeout(timers, now),
+        _ => phel_entry_timers_check_statistics(timers, now),
     }
 }
 
@@ -42,17 +42,17 @@ fn preset(timers: Timers, exp_count: u32) -> TimersAnswer {
 fn answer(timers: Timers, r: Record) -> TimersAnswer {
     let operation = r.operation;
     match operation {
-        6 => srt_entry_timers_new(r.a, r.b, r.c),
+        6 => phel_entry_timers_new(r.a, r.b, r.c),
         7 => check(timers, r.a, r.b),
-        9 => srt_entry_timers_update_snd_period(timers, r.a),
-        10 => srt_entry_timers_update_rtt(
+        9 => phel_entry_timers_update_snd_period(timers, r.a),
+        10 => phel_entry_timers_update_rtt(
             timers,
             Rtt {
                 mean: low(r.a),
                 variance: low(r.b),
             },
         ),
-        11 => srt_entry_timers_reset_exp(timers, r.a),
+        11 => phel_entry_timers_reset_exp(timers, r.a),
         _ => preset(timers, low(r.a)),
     }
 }
@@ -86,7 +86,7 @@ fn show_timers(ts: Timers) {
 pub(crate) fn call(timers: Timers, r: Record) -> Timers {
     if r.operation == 8 {
         show::text(b"timers wake");
-        show_nanoseconds(srt_entry_timers_next_timer(
+        show_nanoseconds(phel_entry_timers_next_timer(
             timers,
             r.a,
             r.b == 1,

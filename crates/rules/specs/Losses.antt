@@ -4,7 +4,7 @@
 --   LossKind, kindOf     "A number is Added if buffered and sent; else Ignored if its distance from next unsent is below 2^30; else Dropped."
 --   reach s m            how many numbers from m on are of m's kind, one after the other
 --   LossRun, endOf       a run of one kind and consecutive numbers, and its exclusive end
---   itemRuns s i         an item's runs, by the ends of its range: three always do (crates/theorems, proofs/Losses.antt)
+--   itemRuns s i         an item's runs, by the ends of its range: three always do (crates/rules_theorems, proofs/Losses.antt)
 --   runsOf s is          the runs of all items, in order; joined   those that meet made one: the answer
 --   report               the loss list after a report: "Added numbers enter the list once."
 -- Assumes nothing.

@@ -12,11 +12,11 @@ use Rattle.refusals.specs.declared.Verdict.{Verdict}
 use Rattle.refusals.specs.declared.Verdict.the-variants.{Accepted}
 use Rattle.refusals.specs.Verdict.{when, answer}
 use Rattle.rules.specs.Refusals.{badRtt}
-use Rattle.ack.specs.declared.FullAck.{FullAck}
-use Rattle.ack.specs.declared.AckRtt.{AckRtt}
-use Rattle.ack.specs.declared.Acked.{Acked}
-use Rattle.ack.specs.declared.Acked.the-variants as acked
-use Rattle.ack.specs.Ack.{rttOf, update}
+use Rattle.buffer_ack.specs.declared.FullAck.{FullAck}
+use Rattle.buffer_ack.specs.declared.AckRtt.{AckRtt}
+use Rattle.buffer_ack.specs.declared.Acked.{Acked}
+use Rattle.buffer_ack.specs.declared.Acked.the-variants as acked
+use Rattle.buffer_ack.specs.Ack.{rttOf, update}
 use Rattle.sender.specs.declared.Sender.{Sender}
 use Rattle.sender.specs.declared.Acknowledged.{Acknowledged}
 use Rattle.sender.specs.declared.Acknowledged.the-variants as acknowledged-as

@@ -21,7 +21,7 @@ use Rattle.refusals.specs.Verdict.{when}
 use Rattle.pacing.specs.Books as Pacing
 use Rattle.rules.specs.Settings.{Settings, inRange, capacity, storeSize}
 use Rattle.buffer.specs.State.{State, state, settingsOf}
-use Rattle.inspect.specs.Kept as Buffer
+use Rattle.book_rules.specs.Kept as Buffer
 use Rattle.sender.specs.declared.Sender.{Sender}
 
 pub record Books : Type 0 where

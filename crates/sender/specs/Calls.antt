@@ -31,9 +31,9 @@ use Rattle.rules.specs.Refusals.{newVerdict}
 use Rattle.buffer.specs.declared.Settings.{Settings}
 use Rattle.buffer.specs.declared.SendBuffer.{SendBuffer}
 use Rattle.buffer.specs.State.{settingsOf, fresh}
-use Rattle.message.specs.declared.Pushed.{Pushed}
-use Rattle.message.specs.Message as Message
-use Rattle.message.specs.Message.{Work, World}
+use Rattle.buffer_push.specs.declared.Pushed.{Pushed}
+use Rattle.buffer_push.specs.Message as Message
+use Rattle.buffer_push.specs.Message.{Work, World}
 use Rattle.sender.specs.declared.Sender.{Sender}
 use Rattle.sender.specs.declared.Made.{Made}
 use Rattle.sender.specs.declared.Made.the-variants as start

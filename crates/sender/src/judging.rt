@@ -7,13 +7,13 @@ ghost use mathlib.Core.Path.{_≡_};
 ghost use Prim.Native.Nat.{_≤_};
 ghost use Rattle.rules.specs.Refusals.{badRtt};
 ghost use Rattle.buffer.specs.State.{settingsOf};
-ghost use Rattle.ack.specs.Ack.{rttOf};
+ghost use Rattle.buffer_ack.specs.Ack.{rttOf};
 ghost use Rattle.sender.specs.Books.{books, areasShort, storeShort, kept, judge, judgeAreas};
 ghost use Rattle.sender.specs.Acks.{ackVerdict};
 ghost use Rattle.sender.specs.Calls.{then, judgeWithStore, countIsFull, inputVerdict, messageVerdict};
 ghost use Rattle.sender.specs.Calls.Laws.{Counting};
 use crate::Sender;
-use ack::AckRtt;
+use buffer_ack::AckRtt;
 use buffer::Settings;
 use refusals::Refusal;
 use refusals::Verdict;
@@ -28,7 +28,7 @@ const LENGTH_MOST: usize = 1_048_576;
 fn areas_short(c: Settings, ring: usize, lost: usize) -> bool
     ensures { λ r. ⌜ r ≡ areasShort (settingsOf c) ring lost ⌝ }
 {
-    if !inspect::settings_in_range(c) {
+    if !book_rules::settings_in_range(c) {
         return false;
     }
     let cap = c.capacity() as usize;
@@ -39,7 +39,7 @@ fn areas_short(c: Settings, ring: usize, lost: usize) -> bool
 fn store_short(c: Settings, store: usize) -> bool
     ensures { λ r. ⌜ r ≡ storeShort (settingsOf c) store ⌝ }
 {
-    if !inspect::settings_in_range(c) {
+    if !book_rules::settings_in_range(c) {
         return false;
     }
     store < c.capacity() as usize * c.size as usize
@@ -50,7 +50,7 @@ fn kept(s: Sender, ring: &[u64], lost: &[u32]) -> bool
     ensures { λ r. ⌜ r ≡ kept (books s (now (ring .entry)) (now (lost .entry))) ⌝ }
 {
     let pacing = s.pacing;
-    inspect::kept(s.buffer, s.settings, ring, lost) & pacing.kept()
+    book_rules::kept(s.buffer, s.settings, ring, lost) & pacing.kept()
 }
 
 // Refuses BadStore and BadState.

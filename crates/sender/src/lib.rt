@@ -10,13 +10,13 @@ ghost use Rattle.sender.specs.Calls.{made, messagedBy, finished, area, d
 ghost use Rattle.sender.specs.Calls.Laws.{Pushable};
 use crate::judging::judge_ack;
 use crate::judging::judge_message;
-use ack::AckAction;
-use ack::AckRtt;
-use ack::Acked;
-use ack::FullAck;
+use buffer_ack::AckAction;
+use buffer_ack::AckRtt;
+use buffer_ack::Acked;
+use buffer_ack::FullAck;
 use buffer::SendBuffer;
 use buffer::Settings;
-use message::Pushed;
+use buffer_push::Pushed;
 use numbers::SeqNumber;
 use pacing::Paced;
 use pacing::SenderCongestionControl;
@@ -112,7 +112,7 @@ fn push(
 {
     let c = s.settings;
     let pacing = s.pacing;
-    let p = message::push_message(s.buffer, c, time, payload, ring, lost, store);
+    let p = buffer_push::push_message(s.buffer, c, time, payload, ring, lost, store);
     let paced = pacing.on_input(now_, p.made as u64, payload.len() as u64);
     finished(c, p, paced)
 }
@@ -148,7 +148,7 @@ impl Sender {
     pub fn new(settings: Settings, mode: LiveBandwidthMode) -> Made
         ensures { λ r. ⌜ r ≡ made settings mode ⌝ }
     {
-        if !inspect::settings_in_range(settings) {
+        if !book_rules::settings_in_range(settings) {
             return Made::Refused(Refusal::BadSetting);
         }
         match SenderCongestionControl::new(mode) {
@@ -195,7 +195,7 @@ impl Sender {
         match judge_ack(self, ack_number, rtt, ring, lost) {
             Verdict::Refused(r) => Acknowledged::Refused(self, r),
             Verdict::Accepted => {
-                let acked = ack::update_largest_acked_seq_number(
+                let acked = buffer_ack::update_largest_acked_seq_number(
                     self.buffer,
                     self.settings,
                     SeqNumber(ack_number),

@@ -15,8 +15,8 @@ use Rattle.refusals.specs.declared.Refusal.the-variants.{BadTime, NoRoom}
 use Rattle.refusals.specs.declared.Verdict.{Verdict}
 use Rattle.refusals.specs.declared.Verdict.the-variants.{Accepted}
 use Rattle.refusals.specs.Verdict.{when, answer}
-use Rattle.run.specs.Run as Run
-use Rattle.run.specs.Run.{World}
+use Rattle.buffer_run.specs.Run as Run
+use Rattle.buffer_run.specs.Run.{World}
 use Rattle.sender.specs.declared.Sender.{Sender}
 use Rattle.sender.specs.Books.{Books, stateOf, rulesOf, judgeAreas}
 use Rattle.sender.specs.Calls.{senderOf, then}

@@ -60,7 +60,7 @@ pub fn run(
         Verdict::Accepted => {
             let settings = s.settings;
             let pacing = s.pacing;
-            let r = run::next_snd_actions(
+            let r = buffer_run::next_snd_actions(
                 s.buffer,
                 settings,
                 ts_now,

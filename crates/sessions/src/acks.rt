@@ -1,8 +1,8 @@
 // An ACK.
 use crate::show;
-use ack::AckAction;
-use ack::AckRtt;
-use ack::FullAck;
+use buffer_ack::AckAction;
+use buffer_ack::AckRtt;
+use buffer_ack::FullAck;
 use rtt::Rtt;
 use sender::Acknowledged;
 use sender::Sender;

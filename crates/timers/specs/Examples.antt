@@ -5,7 +5,7 @@ use mathlib.Core.Path.{_≡_, refl}
 use Prim.Native.Nat.{ℕ, _+_, _^_}
 use Rattle.refusals.specs.declared.Refusal.the-variants.{BadSetting, BadState, BadTime, BadRtt}
 use Rattle.rtt.specs.declared.Rtt.{Rtt}
-use Rattle.periods.specs.Periods.{expPeriod}
+use Rattle.rtt_periods.specs.Periods.{expPeriod}
 use Rattle.timer.specs.Timer.{timer}
 use Rattle.timers.specs.declared.Timers.{Timers}
 use Rattle.timers.specs.declared.TimersSet.the-variants.{Done, Refused}

@@ -18,8 +18,8 @@ use Rattle.refusals.specs.declared.Verdict.the-variants as verdict
 use Rattle.refusals.specs.Verdict.{when, answer}
 use Rattle.rtt.specs.declared.Rtt.{Rtt}
 use Rattle.rtt.specs.Rtt.{start, inRange}
-use Rattle.periods.specs.declared.Periods.{Periods}
-use Rattle.periods.specs.Periods.{calculatePeriods}
+use Rattle.rtt_periods.specs.declared.Periods.{Periods}
+use Rattle.rtt_periods.specs.Periods.{calculatePeriods}
 use Rattle.timer.specs.declared.Timer.{Timer}
 use Rattle.timer.specs.Timer.{timeLimit, longest, kept, timer, started}
 use Rattle.timers.specs.declared.Timers.{Timers}

@@ -1,7 +1,7 @@
 // The timers of a sender, made and set: document 01, "Timers"; the Rust's time/mod.rs. Nanoseconds; round-trip times are microseconds.
 ghost use mathlib.Core.Path.{_≡_};
 ghost use Rattle.timers.specs.Timers.{keptAll, judge, judgeNew, judgePeriod, judgeRtt, begun, new, updateSndPeriod, updateRtt, resetExp};
-use periods::calculate_periods;
+use rtt_periods::calculate_periods;
 use refusals::Refusal;
 use refusals::Verdict;
 use rtt::Rtt;

@@ -21,13 +21,13 @@ use Rattle.refusals.specs.Verdict.{when}
 use Rattle.refusals.specs.Verdict.Laws.{when-accepted}
 use Rattle.rules.specs.Losses.{Words, items, itemsOf, bad, wordsOf}
 use Rattle.rules.specs.Refusals.{wordsVerdict}
-use Rattle.inspect.specs.Kept.Stands.{kept-ready}
-use Rattle.words.specs.declared.Report.{Report}
-use Rattle.words.specs.declared.Report.the-variants.{Items, BadNak as BadAt}
-use Rattle.words.specs.Words.{judged}
-use Rattle.report.specs.declared.Reported as report
-use Rattle.report.specs.Report.{left, add}
-use Rattle.report.specs.Report.Laws.{Reportable}
+use Rattle.book_rules.specs.Kept.Stands.{kept-ready}
+use Rattle.loss_words.specs.declared.Report.{Report}
+use Rattle.loss_words.specs.declared.Report.the-variants.{Items, BadNak as BadAt}
+use Rattle.loss_words.specs.Words.{judged}
+use Rattle.buffer_nak.specs.declared.Reported as report
+use Rattle.buffer_nak.specs.Report.{left, add}
+use Rattle.buffer_nak.specs.Report.Laws.{Reportable}
 use Rattle.sender.specs.Books.{Books, stateOf, rulesOf, areasShort, judge, judgeAreas}
 use Rattle.sender.specs.Books.Laws as books
 use Rattle.sender.specs.Calls.{senderOf, then}

@@ -25,9 +25,9 @@ use Rattle.rules.specs.Losses.{LossRun, report, wordsOf}
 use Rattle.rules.specs.Refusals.{nakVerdict as rulesVerdict, wordsVerdict}
 use Rattle.rules.specs.Calls as calls
 use Rattle.rules.specs.Calls.Laws.{answer-by}
-use Rattle.words.specs.Runs.Lent.{Holds}
-use Rattle.report.specs.Report.{add}
-use Rattle.report.specs.Report.Stands as Report
+use Rattle.loss_words.specs.Runs.Lent.{Holds}
+use Rattle.buffer_nak.specs.Report.{add}
+use Rattle.buffer_nak.specs.Report.Stands as Report
 use Rattle.sender.specs.declared.Sender.{Sender}
 use Rattle.sender.specs.Books.{Books, books, rulesOf, areasShort, kept, judge}
 use Rattle.sender.specs.Books.Stands.{StandsFor, areas-long, judge-accepted, judge-short, judge-broken}

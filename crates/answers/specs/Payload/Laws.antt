@@ -31,8 +31,8 @@ use Rattle.buffer.specs.declared.Flushed.the-variants as flushed
 use Rattle.buffer.specs.State.{state, settingsOf}
 use Rattle.buffer.specs.State.Facts.{stands-facts}
 use Rattle.buffer.specs.State.Stands.{HeldAs}
-use Rattle.inspect.specs.Kept as Buffer
-use Rattle.inspect.specs.Kept.Stands.{kept-ready}
+use Rattle.book_rules.specs.Kept as Buffer
+use Rattle.book_rules.specs.Kept.Stands.{kept-ready}
 use Rattle.sender.specs.declared.Sender.{Sender}
 use Rattle.sender.specs.Books.{Books, judge}
 use Rattle.sender.specs.Books.Laws.{judged}

@@ -10,7 +10,7 @@ use Rattle.ring.specs.Ring.Laws.{Placed}
 use Rattle.rules.specs.Reports.{timeOf}
 use Rattle.buffer.specs.State.{packetsOf}
 use Rattle.buffer.specs.State.Reports.{isFlushed, hasPacketsToSend}
-use Rattle.inspect.specs.Kept.Stands.{kept-ready}
+use Rattle.book_rules.specs.Kept.Stands.{kept-ready}
 use Rattle.sender.specs.Books.{Books, rulesOf, stateOf, judge}
 use Rattle.sender.specs.Books.Laws.{judged}
 use Rattle.answers.specs.declared.Told.the-variants.{Known}

@@ -21,10 +21,10 @@ use Rattle.ring.specs.Entry.{readE}
 use Rattle.ring.specs.Ring.{slotOf}
 use Rattle.ring.specs.Ring as ring
 use Rattle.ring.specs.Ring.Laws.{Placed, slot-below}
-use Rattle.losses.specs.LossList as list
-use Rattle.losses.specs.LossList.Laws.{staying-few}
-use Rattle.losses.specs.LossList.Stands as losses
-use Rattle.losses.specs.LossList.Stands.{wire-plus, stands-length, stands-from, stands-below}
+use Rattle.loss_list.specs.LossList as list
+use Rattle.loss_list.specs.LossList.Laws.{staying-few}
+use Rattle.loss_list.specs.LossList.Stands as losses
+use Rattle.loss_list.specs.LossList.Stands.{wire-plus, stands-length, stands-from, stands-below}
 use Rattle.rules.specs.Numbers.{wire}
 use Rattle.rules.specs.Settings.{Settings}
 use Rattle.rules.specs.Sender.{Sender, from, below, remove}

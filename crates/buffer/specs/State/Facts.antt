@@ -24,13 +24,13 @@ use Rattle.ring.specs.declared.Ring.{Ring}
 use Rattle.ring.specs.Entry.{readE}
 use Rattle.ring.specs.Ring.{slotOf}
 use Rattle.ring.specs.Ring.Laws.{Placed}
-use Rattle.losses.specs.LossList.Stands.{stands-length}
-use Rattle.losses.specs.LossList.Stands.Books.{ascends-few}
+use Rattle.loss_list.specs.LossList.Stands.{stands-length}
+use Rattle.loss_list.specs.LossList.Stands.Books.{ascends-few}
 use Rattle.rules.specs.Numbers.Laws.{wire-below}
 use Rattle.rules.specs.Settings.{Settings, inRange, capacity}
 use Rattle.rules.specs.Sender.{Packet, Sender, sentOf, nothing, wireSizes}
 use Rattle.rules.specs.Books.Laws.{Kept, Sent, Unsent}
-use Rattle.theorems.proofs.Packets.{all-at, sizes-drop}
+use Rattle.rules_theorems.proofs.Packets.{all-at, sizes-drop}
 use Rattle.buffer.specs.State.{State, packetOf, packetsOf, lostOf}
 use Rattle.buffer.specs.State.View.{packets-length, packets-at}
 use Rattle.buffer.specs.State.Stands.{Stands}

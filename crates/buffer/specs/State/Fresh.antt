@@ -10,7 +10,7 @@ use native.Mathlib.Omega.{arith}
 use lib.ListN.{length}
 use Rattle.pacing.specs.declared.options.LiveBandwidthMode.{LiveBandwidthMode}
 use Rattle.ring.specs.Ring.{packets}
-use Rattle.losses.specs.LossList.Stands.{stands-none}
+use Rattle.loss_list.specs.LossList.Stands.{stands-none}
 use Rattle.rules.specs.Settings.{Settings, inRange, capacity}
 use Rattle.rules.specs.Sender as rules
 use Rattle.buffer.specs.State.{state, packetsOf, fresh}

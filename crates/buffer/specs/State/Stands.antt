@@ -10,7 +10,7 @@ use Prim.Native.Nat.{ℕ, _+_, _*_, _≤_}
 use lib.ListN.{length}
 use Rattle.rtt.specs.declared.Rtt.{Rtt}
 use Rattle.ring.specs.Ring.Laws.{Placed}
-use Rattle.losses.specs.LossList.Stands as losses
+use Rattle.loss_list.specs.LossList.Stands as losses
 use Rattle.rules.specs.Numbers.{wire}
 use Rattle.rules.specs.Settings.{Settings, capacity}
 use Rattle.rules.specs.Sender.{Held, Sender}

@@ -24,7 +24,7 @@ use Rattle.ring.specs.Ring.Laws as laws
 use Rattle.ring.specs.Ring.Laws.{Placed}
 use Rattle.rules.specs.Settings.{Settings}
 use Rattle.rules.specs.Sender.{Packet, nothing, wireSizes}
-use Rattle.theorems.proofs.Packets.{sizes-append}
+use Rattle.rules_theorems.proofs.Packets.{sizes-append}
 use Rattle.buffer.specs.State.{packetOf, packetsOf}
 
 map-set : (es : List Entry) (i : ℕ) (e : Entry) → map packetOf (set es i e) ≡ set (map packetOf es) i (packetOf e)

@@ -20,12 +20,12 @@ use Rattle.rules.specs.Books.Laws.{Kept, kept-facts}
 use Rattle.rules.specs.Calls as rules
 use Rattle.rules.specs.Refusals.{newVerdict}
 use Rattle.rules.specs.Reports.{isFlushed, hasPacketsToSend, bufferedPackets, bufferedBytes, bufferedTime}
-use Rattle.theorems.specs.Promises.{Given, AllGiven, DemandThree}
+use Rattle.rules_theorems.specs.Promises.{Given, AllGiven, DemandThree}
 use Rattle.rules.specs.Message.{stored}
-use Rattle.theorems.proofs.CallsKept.{answer-kept}
-use Rattle.theorems.proofs.Store.{written-length}
-use Rattle.theorems.proofs.Theorems as theorems
-use Rattle.theorems.proofs.Theorems.{books-kept}
+use Rattle.rules_theorems.proofs.CallsKept.{answer-kept}
+use Rattle.rules_theorems.proofs.Store.{written-length}
+use Rattle.rules_theorems.proofs.Theorems as theorems
+use Rattle.rules_theorems.proofs.Theorems.{books-kept}
 use Rattle.encapsulate.specs.Split.{count}
 use Rattle.refusals.specs.declared.Verdict.{Verdict}
 use Rattle.buffer.specs.declared.Settings as code
@@ -40,7 +40,7 @@ use Rattle.answers.specs.Payload.Stands as Payload
 use Rattle.answers.specs.Reports.{reports}
 use Rattle.answers.specs.Reports.Stands.{reports-are}
 use Rattle.sender_run.specs.Runs.Stands as Run
-use Rattle.ack.specs.declared.FullAck.the-variants as full
+use Rattle.buffer_ack.specs.declared.FullAck.the-variants as full
 use Rattle.promises.specs.Promises.{World, Call, message, ack, nak, run, payload, ruleOf, Fits, AllFit, after, worlds, Same, started}
 
 pub record Stood (c : Settings) (w : World) (s : Sender) : Type 0 where

@@ -9,8 +9,8 @@ use mathlib.Core.List.{List}
 use Prim.Native.Nat.{ℕ}
 use Rattle.pacing.specs.declared.options.LiveBandwidthMode.{LiveBandwidthMode}
 use Rattle.buffer.specs.declared.Settings.{Settings}
-use Rattle.ack.specs.declared.FullAck.{FullAck}
-use Rattle.ack.specs.declared.AckRtt.{AckRtt}
+use Rattle.buffer_ack.specs.declared.FullAck.{FullAck}
+use Rattle.buffer_ack.specs.declared.AckRtt.{AckRtt}
 use Rattle.sender.specs.declared.Made.{Made}
 use Rattle.sender.specs.declared.Acknowledged.{Acknowledged}
 use Rattle.sender.specs.Books.{Books}

@@ -36,19 +36,19 @@ use Rattle.pacing.specs.declared.Paced.the-variants as paced
 use Rattle.pacing.specs.Pacing.{due, moved, sndPeriod, input}
 use Rattle.pacing.specs.Pacing.{after as kept}
 use Rattle.buffer.specs.declared.Settings.{Settings}
-use Rattle.message.specs.declared.Pushed.{Pushed}
-use Rattle.ack.specs.declared.FullAck.{FullAck}
-use Rattle.ack.specs.declared.AckRtt.{AckRtt}
-use Rattle.ack.specs.declared.Acked.{Acked}
-use Rattle.ack.specs.declared.Acked.the-variants as acked
-use Rattle.ack.specs.Ack as AckOf
-use Rattle.ack.specs.Ack.Stands.{refused-keeps}
+use Rattle.buffer_push.specs.declared.Pushed.{Pushed}
+use Rattle.buffer_ack.specs.declared.FullAck.{FullAck}
+use Rattle.buffer_ack.specs.declared.AckRtt.{AckRtt}
+use Rattle.buffer_ack.specs.declared.Acked.{Acked}
+use Rattle.buffer_ack.specs.declared.Acked.the-variants as acked
+use Rattle.buffer_ack.specs.Ack as AckOf
+use Rattle.buffer_ack.specs.Ack.Stands.{refused-keeps}
 use Rattle.buffer.specs.declared.SendBuffer.{SendBuffer}
 use Rattle.sender.specs.declared.Sender.{Sender}
 use Rattle.sender.specs.declared.Acknowledged.{Acknowledged}
 use Rattle.sender.specs.declared.Acknowledged.the-variants as acknowledged-as
-use Rattle.report.specs.Report as Report
-use Rattle.run.specs.Run as Run₀
+use Rattle.buffer_nak.specs.Report as Report
+use Rattle.buffer_run.specs.Run as Run₀
 use Rattle.sender.specs.declared.Messaged.the-variants as messaged
 use Rattle.answers.specs.declared.Reported.the-variants as reported
 use Rattle.sender_run.specs.declared.Ran.the-variants as ran

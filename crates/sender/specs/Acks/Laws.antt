@@ -15,11 +15,11 @@ use Rattle.refusals.specs.declared.Verdict.the-variants.{Accepted}
 use Rattle.refusals.specs.Verdict.{when}
 use Rattle.refusals.specs.Verdict.Laws.{when-accepted}
 use Rattle.rules.specs.Refusals.{badRtt}
-use Rattle.inspect.specs.Kept.Stands.{kept-ready}
-use Rattle.ack.specs.declared.AckRtt.{AckRtt}
-use Rattle.ack.specs.declared.Acked.{Acked}
-use Rattle.ack.specs.Ack.{rttOf}
-use Rattle.ack.specs.Ack.Laws.{Asked}
+use Rattle.book_rules.specs.Kept.Stands.{kept-ready}
+use Rattle.buffer_ack.specs.declared.AckRtt.{AckRtt}
+use Rattle.buffer_ack.specs.declared.Acked.{Acked}
+use Rattle.buffer_ack.specs.Ack.{rttOf}
+use Rattle.buffer_ack.specs.Ack.Laws.{Asked}
 use Rattle.sender.specs.declared.Sender.{Sender}
 use Rattle.sender.specs.Books.{Books, stateOf, rulesOf, areasShort, judge, judgeAreas}
 use Rattle.sender.specs.Books.Laws.{judged}

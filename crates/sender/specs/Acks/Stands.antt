@@ -25,13 +25,13 @@ use Rattle.rules.specs.Refusals as tests
 use Rattle.rules.specs.Refusals.{badRtt}
 use Rattle.rules.specs.Calls as calls
 use Rattle.rules.specs.Calls.Laws.{answer-by}
-use Rattle.ack.specs.declared.FullAck.{FullAck}
-use Rattle.ack.specs.declared.AckRtt.{AckRtt}
-use Rattle.ack.specs.declared.Acked.{Acked}
-use Rattle.ack.specs.declared.Acked.the-variants as acked
-use Rattle.ack.specs.Ack as Ack
-use Rattle.ack.specs.Ack.{fullOf, rttOf, update}
-use Rattle.ack.specs.Ack.Stands.{update-is}
+use Rattle.buffer_ack.specs.declared.FullAck.{FullAck}
+use Rattle.buffer_ack.specs.declared.AckRtt.{AckRtt}
+use Rattle.buffer_ack.specs.declared.Acked.{Acked}
+use Rattle.buffer_ack.specs.declared.Acked.the-variants as acked
+use Rattle.buffer_ack.specs.Ack as Ack
+use Rattle.buffer_ack.specs.Ack.{fullOf, rttOf, update}
+use Rattle.buffer_ack.specs.Ack.Stands.{update-is}
 use Rattle.sender.specs.declared.Sender.{Sender}
 use Rattle.sender.specs.declared.Acknowledged.{Acknowledged}
 use Rattle.sender.specs.declared.Acknowledged.the-variants as done

@@ -9,7 +9,7 @@ use Rattle.refusals.specs.declared.Verdict.the-variants.{Accepted}
 use Rattle.refusals.specs.Verdict.{when}
 use Rattle.refusals.specs.Verdict.Laws.{when-accepted}
 use Rattle.pacing.specs.Books as Pacing
-use Rattle.inspect.specs.Kept as Buffer
+use Rattle.book_rules.specs.Kept as Buffer
 use Rattle.sender.specs.Books.{Books, rulesOf, stateOf, kept, judge}
 
 pub record Judged (short : Bool) (g : Books) : Type 0 where

@@ -19,8 +19,8 @@ use Rattle.rules.specs.Settings.{inRange, capacity}
 use Rattle.rules.specs.Sender as rules
 use Rattle.rules.specs.Books.Laws.{Kept}
 use Rattle.buffer.specs.State.Stands.{Stands}
-use Rattle.inspect.specs.Kept as Buffer
-use Rattle.inspect.specs.Kept.Stands.{seenAs, kept-stands, kept-rules, ready-kept}
+use Rattle.book_rules.specs.Kept as Buffer
+use Rattle.book_rules.specs.Kept.Stands.{seenAs, kept-stands, kept-rules, ready-kept}
 use Rattle.sender.specs.declared.Sender.{Sender}
 use Rattle.sender.specs.Books.{Books, books, stateOf, rulesOf, areasShort, kept, judge}
 

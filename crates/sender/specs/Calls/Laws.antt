@@ -33,17 +33,17 @@ use Rattle.pacing.specs.Pacing.{countFull, input, onInput}
 use Rattle.pacing.specs.Pacing.Laws as PacingLaws
 use Rattle.rules.specs.Settings.{Settings, inRange, storeSize}
 use Rattle.rules.specs.Refusals.{newVerdict}
-use Rattle.theorems.proofs.Verdicts.{or-false}
+use Rattle.rules_theorems.proofs.Verdicts.{or-false}
 use Rattle.buffer.specs.declared.Settings as code
 use Rattle.buffer.specs.declared.SendBuffer.{SendBuffer}
 use Rattle.buffer.specs.State.{settingsOf, fresh}
 use Rattle.buffer.specs.State.Facts.{stands-facts}
-use Rattle.inspect.specs.Kept.Stands.{kept-ready}
-use Rattle.message.specs.declared.Pushed.{Pushed}
-use Rattle.message.specs.Message as Message
-use Rattle.message.specs.Message.{World, work, world}
-use Rattle.message.specs.Message.Laws.{message-made}
-use Rattle.message.specs.Message.Whole.{Sendable}
+use Rattle.book_rules.specs.Kept.Stands.{kept-ready}
+use Rattle.buffer_push.specs.declared.Pushed.{Pushed}
+use Rattle.buffer_push.specs.Message as Message
+use Rattle.buffer_push.specs.Message.{World, work, world}
+use Rattle.buffer_push.specs.Message.Laws.{message-made}
+use Rattle.buffer_push.specs.Message.Whole.{Sendable}
 use Rattle.sender.specs.declared.Sender.{Sender}
 use Rattle.sender.specs.declared.Made.{Made}
 use Rattle.sender.specs.declared.Made.the-variants as of

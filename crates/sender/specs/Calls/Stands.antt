@@ -39,9 +39,9 @@ use Rattle.rules.specs.Calls as calls
 use Rattle.buffer.specs.declared.Settings as code
 use Rattle.buffer.specs.State.{settingsOf, fresh}
 use Rattle.buffer.specs.State.Fresh.{fresh-stands}
-use Rattle.message.specs.declared.Pushed.{Pushed}
-use Rattle.message.specs.Message as Message
-use Rattle.message.specs.Message.Laws.{stands-message, message-made, message-said, message-store}
+use Rattle.buffer_push.specs.declared.Pushed.{Pushed}
+use Rattle.buffer_push.specs.Message as Message
+use Rattle.buffer_push.specs.Message.Laws.{stands-message, message-made, message-said, message-store}
 use Rattle.sender.specs.declared.Sender.{Sender}
 use Rattle.sender.specs.declared.Made.{Made}
 use Rattle.sender.specs.declared.Made.the-variants as start

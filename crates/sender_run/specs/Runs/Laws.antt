@@ -15,12 +15,12 @@ use Rattle.refusals.specs.declared.Verdict.{Verdict}
 use Rattle.refusals.specs.declared.Verdict.the-variants.{Accepted}
 use Rattle.refusals.specs.Verdict.{when}
 use Rattle.refusals.specs.Verdict.Laws.{when-accepted}
-use Rattle.inspect.specs.Kept.Stands.{kept-ready}
+use Rattle.book_rules.specs.Kept.Stands.{kept-ready}
 use Rattle.buffer.specs.State.{state}
 use Rattle.buffer.specs.declared.SendBuffer.{SendBuffer}
-use Rattle.run.specs.Run as Run
-use Rattle.run.specs.Run.{world}
-use Rattle.run.specs.Run.Turns.{Runnable}
+use Rattle.buffer_run.specs.Run as Run
+use Rattle.buffer_run.specs.Run.{world}
+use Rattle.buffer_run.specs.Run.Turns.{Runnable}
 use Rattle.sender.specs.Books.{Books, stateOf, rulesOf, areasShort, judge, judgeAreas}
 use Rattle.sender.specs.Books.Laws.{judged}
 use Rattle.sender.specs.Calls.{senderOf, then}

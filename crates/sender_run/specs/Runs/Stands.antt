@@ -30,12 +30,12 @@ use Rattle.rules.specs.Numbers.{wire}
 use Rattle.rules.specs.Records.{sends}
 use Rattle.rules.specs.Run as Rules
 use Rattle.rules.specs.Run.Laws as RunLaws
-use Rattle.theorems.proofs.Split as split
-use Rattle.theorems.proofs.Split.{loop-end, loop-on}
+use Rattle.rules_theorems.proofs.Split as split
+use Rattle.rules_theorems.proofs.Split.{loop-end, loop-on}
 use Rattle.buffer.specs.State.View.{packets-length}
-use Rattle.sending.specs.Sending.{written}
-use Rattle.run.specs.Run as Run
-use Rattle.run.specs.Run.Laws.Whole.{run-stands}
+use Rattle.run_effects.specs.Sending.{written}
+use Rattle.buffer_run.specs.Run as Run
+use Rattle.buffer_run.specs.Run.Laws.Whole.{run-stands}
 use Rattle.sender.specs.declared.Sender.{Sender}
 use Rattle.sender.specs.Books.{Books, books, stateOf, rulesOf, areasShort, kept, judge}
 use Rattle.sender.specs.Books.Stands.{StandsFor, areas-long, judge-accepted, judge-short, judge-broken}

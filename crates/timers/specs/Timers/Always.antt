@@ -17,7 +17,7 @@ use Rattle.refusals.specs.Verdict.Laws.{when-accepted, answer-by}
 use Rattle.rtt.specs.declared.Rtt.{Rtt}
 use Rattle.timer.specs.Timer.{timeLimit, longest, started}
 use Rattle.timer.specs.Timer.Laws.{Kept}
-use Rattle.periods.specs.Periods.{expPeriod}
+use Rattle.rtt_periods.specs.Periods.{expPeriod}
 use Rattle.timers.specs.declared.Timers.{Timers}
 use Rattle.timers.specs.declared.TimersSet.{TimersSet}
 use Rattle.timers.specs.declared.TimersSet.the-variants as set

@@ -1,0 +1,25 @@
+-- One timer's answers as numbers. Document 01, "What each place should look like": "Where an answer is an enum, a definition states this
+-- paper's number and values for each of its cases."
+--   timerSet t a      of a timer t made or set: 0 and the timer, or the refusal's number and t as it was
+--   timerChecked t a  of a timer t checked: 0, the periods and the timer, or the refusal's number and t as it was
+-- Assumes nothing.
+use Prim.Native.Nat.{ℕ}
+use Rattle.refusals.specs.Table.{numberOf}
+use Rattle.timer.specs.declared.Timer.{Timer}
+use Rattle.timer.specs.declared.TimerSet.{TimerSet}
+use Rattle.timer.specs.declared.TimerSet.the-variants as set
+use Rattle.timer.specs.declared.TimerChecked.{TimerChecked}
+use Rattle.timer.specs.declared.TimerChecked.the-variants as checked
+use Rattle.host_timers.specs.TimersAnswers.{told}
+use Rattle.compare_entries.specs.declared.of_timer.TimerAnswer.{TimerAnswer}
+
+abbrev pub timerAnswer : ℕ → ℕ → Timer → TimerAnswer
+timerAnswer refusal periods timer = record { refusal = refusal; periods = periods; timer = timer }
+
+unfoldable pub timerSet : Timer → TimerSet → TimerAnswer
+timerSet before (set.Done timer) = timerAnswer 0 0 timer
+timerSet before (set.Refused refusal) = timerAnswer (numberOf refusal) 0 before
+
+unfoldable pub timerChecked : Timer → TimerChecked → TimerAnswer
+timerChecked before (checked.Done ticked) = timerAnswer 0 (told (ticked .elapsed)) (ticked .timer)
+timerChecked before (checked.Refused refusal) = timerAnswer (numberOf refusal) 0 before

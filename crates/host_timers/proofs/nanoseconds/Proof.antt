@@ -1,0 +1,27 @@
+-- `host_timers::nanoseconds` meets its contract: each case is its case of `nanoseconds`.
+-- Assumes nothing.
+use Rattle.host_timers.specs.TimersAnswers.{nanoseconds}
+use borrow.Author.Needs.{needs}
+use Rattle.host_timers.proofs.nanoseconds.Statement.{statement}
+use Rattle.host_timers.proofs.nanoseconds.Tie as tie
+
+enum-known-a : tie.Need-enum-known-a
+enum-known-a c = search needs
+
+enum-known-a-2 : tie.Need-enum-known-a-2
+enum-known-a-2 c = search needs
+
+number-requires : tie.Need-number-requires
+number-requires c κs = search needs
+
+returns : tie.Need-returns
+unfolding nanoseconds
+returns c = rw (c .before .a .given .1)
+
+returns-2 : tie.Need-returns-2
+unfolding nanoseconds
+returns-2 c = rw (c .number .ensures .is, c .before .before .a2 .given .1)
+
+pub nanoseconds-spec : {M : Type 1} → statement M
+nanoseconds-spec =
+    tie.close (tie.spec enum-known-a enum-known-a-2 number-requires returns returns-2)
