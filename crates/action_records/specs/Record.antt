@@ -4,7 +4,6 @@
 --                   input, 6 wait ACK)"
 --   actionOf r      the rules' action
 --   plain k ..      the record of a drop or a wait, with a number, a word and a stamp: "Unused fields are 0"
--- Assumes nothing.
 pub mod Laws
 use mathlib.Core.Path.{_≡_}
 use Prim.Native.Nat.{ℕ, _≤_}

@@ -33,7 +33,7 @@ pub const SIZE: usize = 24;
 
 impl Kind {
     // The number that stands first in a record.
-    pub fn number(self) -> u32
+    pub fn number(self) -> u8
         ensures { λ r. ⌜ Numbered self r ⌝ }
     {
         match self {
@@ -68,37 +68,36 @@ impl Record {
         ensures { λ r. ⌜ r ≡ encode (actionOf self) ⌝ }
     {
         let kind = self.kind;
-        let code = kind.number();
-        let len = self.len;
-        let number = self.number;
-        let word = self.word;
-        let stamp = self.stamp;
-        let time = self.time;
+        let len = octets::little16(self.len);
+        let number = octets::little32(self.number);
+        let word = octets::little32(self.word);
+        let stamp = octets::little32(self.stamp);
+        let time = octets::little64(self.time);
         [
-            (code % 256) as u8,
+            kind.number(),
             self.flags,
-            (len % 256) as u8,
-            (len / 256 % 256) as u8,
-            (number % 256) as u8,
-            (number / 256 % 256) as u8,
-            (number / 256 / 256 % 256) as u8,
-            (number / 256 / 256 / 256 % 256) as u8,
-            (word % 256) as u8,
-            (word / 256 % 256) as u8,
-            (word / 256 / 256 % 256) as u8,
-            (word / 256 / 256 / 256 % 256) as u8,
-            (stamp % 256) as u8,
-            (stamp / 256 % 256) as u8,
-            (stamp / 256 / 256 % 256) as u8,
-            (stamp / 256 / 256 / 256 % 256) as u8,
-            (time % 256) as u8,
-            (time / 256 % 256) as u8,
-            (time / 256 / 256 % 256) as u8,
-            (time / 256 / 256 / 256 % 256) as u8,
-            (time / 256 / 256 / 256 / 256 % 256) as u8,
-            (time / 256 / 256 / 256 / 256 / 256 % 256) as u8,
-            (time / 256 / 256 / 256 / 256 / 256 / 256 % 256) as u8,
-            (time / 256 / 256 / 256 / 256 / 256 / 256 / 256 % 256) as u8,
+            len[0],
+            len[1],
+            number[0],
+            number[1],
+            number[2],
+            number[3],
+            word[0],
+            word[1],
+            word[2],
+            word[3],
+            stamp[0],
+            stamp[1],
+            stamp[2],
+            stamp[3],
+            time[0],
+            time[1],
+            time[2],
+            time[3],
+            time[4],
+            time[5],
+            time[6],
+            time[7],
         ]
     }
 

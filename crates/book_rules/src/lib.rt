@@ -1,5 +1,5 @@
-// The book rules, decided on the kept numbers and the lent areas. Document 01, "Book rules": "A host entry checks them"; refusal 3, BadState,
-// is given exactly where `kept` says no.
+// The book rules, checked on the kept numbers and the lent areas. Document 01, "Book rules": "A host entry checks
+// them"; refusal 3, BadState, is given exactly where `kept` is false.
 ghost use mathlib.Core.Path.{_≡_};
 ghost use Prim.Native.Nat.{_≤_};
 ghost use lib.ListN.{take, drop};
@@ -13,22 +13,22 @@ use buffer::SendBuffer;
 use buffer::Settings;
 use ring::Entry;
 use ring::Ring;
-
-const TIME_LIMIT: u64 = 1 << 48;
+use rules_numbers::BYTES_LIMIT;
+use rules_numbers::SIZE_MOST;
+use rules_numbers::TIME_LIMIT;
+use rules_numbers::TRANSMIT_MOST;
 
 const MESSAGE_LIMIT: u64 = 1 << 26;
 
 const RESEND_LIMIT: u64 = 1 << 49;
 
-const BYTES_LIMIT: u64 = 1 << 62;
-
-// Whether each setting is in its range; refusal 1, BadSetting, where not.
+// Whether each setting is in its range; if not, the refusal is 1, BadSetting.
 pub fn settings_in_range(c: Settings) -> bool
     ensures { λ r. ⌜ r ≡ inRange (settingsOf c) ⌝ }
 {
     (c.first < 0x8000_0000)
         & ((1 <= c.size)
-            & ((c.size <= 1_456)
+            & ((c.size <= SIZE_MOST)
                 & ((c.buffer <= 8_192)
                     & ((c.flow <= 65_535) & ((c.latency <= 65_535_000) & (c.overhead <= 128))))))
 }
@@ -44,7 +44,7 @@ fn flushed_kept(c: Settings, f: Flushed) -> bool
     }
 }
 
-// Of the kept numbers, whatever the areas hold.
+// The rules of the kept numbers, whatever the areas hold.
 fn numbers_kept(b: SendBuffer, c: Settings) -> bool
     ensures { λ r. ⌜ r ≡ numbersKept (settingsOf c) b ⌝ }
 {
@@ -59,7 +59,7 @@ fn numbers_kept(b: SendBuffer, c: Settings) -> bool
                 & ((b.bytes < BYTES_LIMIT)
                     & ((1 <= b.expected)
                         & ((b.expected <= 0x1_0000_0000)
-                            & (rtt.in_range()
+                            & (rtt::in_range(rtt)
                                 & ((message.0 < 0x400_0000) & flushed_kept(c, flushed))))))))
 }
 
@@ -79,7 +79,7 @@ fn sent_kept(c: Settings, e: Entry) -> bool
         & ((e.time < TIME_LIMIT)
             & ((e.message < MESSAGE_LIMIT)
                 & ((e.len <= c.size as u64)
-                    & ((1 <= e.count) & ((e.count <= 65_535) & (e.resend < RESEND_LIMIT))))))
+                    & ((1 <= e.count) & ((e.count <= TRANSMIT_MOST) & (e.resend < RESEND_LIMIT))))))
 }
 
 fn unsent_kept(c: Settings, e: Entry) -> bool
@@ -101,7 +101,7 @@ fn entry_kept(c: Settings, sent: bool, e: Entry) -> bool
     }
 }
 
-// Of the packets `from` to `to`, all sent or all unsent.
+// The rules of the packets `from` to `to`, all sent or all unsent.
 fn run_kept(at: Ring, c: Settings, ring: &[u64], from: usize, to: usize, sent: bool) -> bool
     requires { ⌜ Placed at (now ring) ⌝ }
     requires { ⌜ (from ≤ to) × (to ≤ at .len) ⌝ }
@@ -118,7 +118,7 @@ fn run_kept(at: Ring, c: Settings, ring: &[u64], from: usize, to: usize, sent: b
     true
 }
 
-// Of every packet.
+// The rules of every packet.
 fn entries_kept(b: SendBuffer, c: Settings, ring: &[u64]) -> bool
     requires { ⌜ Placed (b .ring) (now ring) ⌝ }
     requires { ⌜ b .sent ≤ b .ring .len ⌝ }
@@ -129,7 +129,7 @@ fn entries_kept(b: SendBuffer, c: Settings, ring: &[u64]) -> bool
     run_kept(at, c, ring, 0, sent, true) & run_kept(at, c, ring, sent, at.len, false)
 }
 
-// Whether the books and the areas that are lent with them keep the book rules.
+// Whether the books, with the areas lent for the call, keep the book rules.
 pub fn kept(b: SendBuffer, c: Settings, ring: &[u64], lost: &[u32]) -> bool
     ensures { λ r. ⌜ r ≡ kept (settingsOf c) (state b (now (ring .entry)) (now (lost .entry))) ⌝ }
 {

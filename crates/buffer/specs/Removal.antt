@@ -1,11 +1,11 @@
--- Removal from the front, which a full buffer, a late drop, an ACK and the flush share: document 01's "Loss entries go too; next unsent moves
--- past them". The packets' words and the loss entries stay where they are: the ring begins further on, and the loss list ends earlier.
---   staying, going k st  how many entries of the loss list stay where k packets go, and how many go with them
---   removed k bytes st   k packets go; the byte count becomes `bytes`
--- Assumes nothing.
+-- Removal from the front, as done by a full buffer, a late drop, an ACK and the flush: document 01's "Loss entries go
+-- too; next unsent moves past them". No word of the areas changes: the ring begins later, the loss list ends earlier.
+--   frontAfter, keyAfter the new front, and its distance from the old one
+--   staying, going k st   how many loss entries stay when k packets go, and how many go
+--   removed k bytes st    the state without the first k packets, and with byte count `bytes`
 pub mod Laws
 use Prim.Native.Nat.{ℕ, _-_}
-use Rattle.numbers.specs.Modular.{seqs, plus, dist}
+use Rattle.rules_numbers.specs.Modular.{seqs, plus, dist}
 use Rattle.ring.specs.Ring as ring
 use Rattle.loss_list.specs.LossList as list
 use Rattle.buffer.specs.State.{State, put}

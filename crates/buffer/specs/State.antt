@@ -1,15 +1,14 @@
--- The books and the lent areas together, and what they stand for.
---   State            the kept numbers, the ring's words, the loss list's words
---   fresh c          the kept numbers at the start
---   settingsOf c     the settings of the rules
---   placeFrom w      the place that the word w of an entry stands for: document 01's two bits
---   packetOf e       the packet that an entry stands for
---   packetsOf r xs   the packets of a ring over the words xs, from the front
---   view st          the buffered packets
---   lostOf st        the loss list, as it stands in its area: farthest first
---   put b ..         other places, front, sent count, loss count and byte count
---   withOthers b ..  another RTT, message number, expected full number and flushed packet
--- Assumes nothing.
+-- The books together with the lent areas, and the packets and loss list that they hold.
+--   State, state      the kept numbers, the ring's words, the loss list's words
+--   fresh c           the kept numbers of a new sender
+--   settingsOf c      the settings, as in the rules
+--   placeFrom w       the place in the word w of an entry, by document 01's two bits
+--   packetOf e        the packet of an entry
+--   packetsOf r xs    the packets of a ring in the words xs, from the front
+--   view st           the buffered packets
+--   lostOf st         the loss list as it is in its area: farthest first
+--   put b ..          b with another ring, front, sent count, loss count and byte count
+--   withOthers b ..   b with another RTT, message number, expected full number and flushed packet
 pub mod Facts
 pub mod Fresh
 pub mod Reports
@@ -19,14 +18,14 @@ pub mod View
 use mathlib.Core.List.{List, map}
 use Prim.Native.Nat.{ℕ, zero, suc}
 use lib.ListN.{take}
-use Rattle.numbers.specs.declared.MsgNumber.{MsgNumber}
-use Rattle.encapsulate.specs.declared.Place.{Place}
-use Rattle.encapsulate.specs.declared.Place.the-variants.{First, Middle, Last, Only}
+use Rattle.rules_numbers.specs.declared.MsgNumber.{MsgNumber}
+use Rattle.rules_packets.specs.declared.Place.{Place}
+use Rattle.rules_packets.specs.declared.Place.the-variants.{First, Middle, Last, Only}
 use Rattle.ring.specs.declared.Entry.{Entry}
 use Rattle.ring.specs.declared.Ring.{Ring}
 use Rattle.ring.specs.Ring.{packets}
-use Rattle.rtt.specs.declared.Rtt.{Rtt}
-use Rattle.rtt.specs.Rtt.{start}
+use Rattle.rules_numbers.specs.declared.Rtt.{Rtt}
+use Rattle.rules_numbers.specs.Rtt.{start}
 use Rattle.rules.specs.Settings as rules
 use Rattle.rules.specs.Sender.{Packet}
 use Rattle.buffer.specs.declared.Settings.{Settings}

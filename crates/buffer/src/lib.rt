@@ -1,5 +1,6 @@
-// The send buffer's books: what a sender keeps beside the lent areas. Document 01, "Numbers and their ends", "Book rules" and the reports of
-// "What the hub takes from the crate"; the Rust's `SendBuffer`. The packets lie in a lent ring of entries, the loss list in a lent area.
+// The send buffer's books: what a sender keeps besides the lent areas. Document 01, "Numbers and their ends", "Book
+// rules" and the reports of "What the hub takes from the crate"; the Rust's `SendBuffer`. The packets lie in a lent
+// ring of entries, the loss list in a lent area.
 ghost use mathlib.Core.Path.{_≡_};
 ghost use Prim.Native.Nat.{_-_, _≤_, max};
 ghost use lib.Dec.{ltb};
@@ -11,10 +12,10 @@ ghost use Rattle.rules.specs.Reports.{timeOf};
 ghost use Rattle.buffer.specs.State.{settingsOf, packetsOf, put, withOthers, fresh};
 ghost use Rattle.buffer.specs.State.Reports.{isFlushed, hasPacketsToSend};
 ghost use Rattle.buffer.specs.Removal.Laws.{Removable, Removed, Weighable};
-use numbers::MsgNumber;
-use numbers::SeqNumber;
 use ring::Ring;
-use rtt::Rtt;
+use rules_numbers::MsgNumber;
+use rules_numbers::Rtt;
+use rules_numbers::SeqNumber;
 
 // The seven settings of a sender, in document 01's order.
 #[repr(C)]
@@ -34,8 +35,8 @@ pub enum Flushed {
     Held(SeqNumber, usize, usize),
 }
 
-// The kept numbers: where the packets lie, the number of the front one, how many packets are sent from there on, how many numbers are on
-// the loss list, the byte count, and what no packet shows.
+// The kept numbers: where the packets lie, the front's number, how many packets from the front on are sent, the length
+// of the loss list, the byte count, and the fields that don't depend on the packets.
 pub struct SendBuffer {
     pub ring: Ring,
     pub front: SeqNumber,
@@ -78,7 +79,7 @@ impl Settings {
 }
 
 impl SendBuffer {
-    // The books of a sender at its start.
+    // The books of a new sender.
     pub fn new(c: Settings) -> SendBuffer
         ensures { λ r. ⌜ r ≡ fresh (settingsOf c) ⌝ }
     {
@@ -92,14 +93,14 @@ impl SendBuffer {
             sent: 0,
             lost: 0,
             bytes: 0,
-            rtt: Rtt::start(),
+            rtt: rtt::start(),
             message: MsgNumber(0),
             expected: 1,
             flushed: Flushed::Nothing,
         }
     }
 
-    // The same books with the packets elsewhere, another front, and other counts.
+    // The same books with another ring, front and counts.
     pub fn put(self, ring: Ring, front: SeqNumber, sent: u32, lost: usize, bytes: u64) -> SendBuffer
         ensures { λ r. ⌜ r ≡ put self ring (front .0) sent lost bytes ⌝ }
     {
@@ -119,7 +120,7 @@ impl SendBuffer {
         }
     }
 
-    // The same packets and counts with other values of what no packet shows.
+    // The same packets and counts, with the other fields replaced.
     pub fn with_others(
         self,
         rtt: Rtt,
@@ -159,14 +160,14 @@ impl SendBuffer {
         self.bytes
     }
 
-    // How many packets are sent and not acknowledged.
+    // How many packets are sent but not acknowledged.
     pub fn number_of_unacked_packets(self) -> u32
         ensures { λ r. ⌜ r ≡ self .sent ⌝ }
     {
         self.sent
     }
 
-    // Whether more packets are sent and not acknowledged than the flow window says.
+    // Whether the packets sent but not acknowledged exceed the flow window.
     pub fn flow_window_exceeded(self, c: Settings) -> bool
         ensures { λ r. ⌜ r ≡ ltb (c .flow) (self .sent) ⌝ }
     {
@@ -181,7 +182,7 @@ impl SendBuffer {
         (self.lost == 0) & (ring.len == 0)
     }
 
-    // Whether a packet is unsent, or a number on the loss list.
+    // Whether a packet is unsent, or a number is on the loss list.
     pub fn has_packets_to_send(self) -> bool
         ensures { λ r. ⌜ r ≡ hasPacketsToSend self ⌝ }
     {
@@ -189,7 +190,7 @@ impl SendBuffer {
         ((self.sent as usize) < ring.len) | !(self.lost == 0)
     }
 
-    // The back packet's time less the front's, 0 where that is negative or nothing is buffered.
+    // The back packet's time less the front's; 0 if that is negative or nothing is buffered.
     pub fn duration(self, ring: &[u64]) -> u64
         requires { ⌜ Placed (self .ring) (now ring) ⌝ }
         ensures { λ r. ⌜ r ≡ timeOf (packetsOf (self .ring) (now (ring .entry))) ⌝ }
@@ -206,7 +207,7 @@ impl SendBuffer {
         back.time - front.time
     }
 
-    // The wire sizes of the `k` packets at the front together.
+    // The sum of the wire sizes of the first `k` packets.
     pub fn wire_sizes(self, c: Settings, ring: &[u64], k: usize) -> u64
         requires { ⌜ Weighable (settingsOf c) (self .ring) (now ring) k ⌝ }
         ensures { λ r. ⌜ r ≡ wireSizes (settingsOf c) (take k (packetsOf (self .ring) (now (ring .entry)))) ⌝ }
@@ -222,14 +223,15 @@ impl SendBuffer {
         sum
     }
 
-    // `k` packets go from the front, from the loss list too, and next unsent moves past them; the byte count becomes `bytes`.
+    // Removes `k` packets from the front and from the loss list; next unsent moves past them. The byte count
+    // becomes `bytes`.
     pub fn remove(self, lost: &[u32], k: usize, bytes: u64) -> SendBuffer
         requires { ⌜ Removable self (now lost) k ⌝ }
         ensures { λ r. ⌜ Removed self (now (lost .entry)) k bytes r ⌝ }
     {
         let ring = self.ring;
         let front = self.front;
-        let to = front.plus(k as u32);
+        let to = numbers::plus(front, k as u32);
         let listed = loss_list::remove_below(lost, self.lost, front, to);
         let rest = ring.remove_front(k);
         let sent = less(self.sent, k as u32);

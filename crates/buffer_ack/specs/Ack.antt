@@ -1,29 +1,29 @@
--- Document 01, "ACK", on the books and the lent areas. "First to next unsent, inclusive. RTT is taken over; then the full number is tested ..
--- Loss entries below the ACK go (`recovered`), then packets below it (`received`). Both counts and the full number are returned." "All stays
--- as before; 11 alone keeps a new RTT."
---   fullOf, rttOf             the full number and the round-trip time that an ACK brings or not
---   with b rtt e              other round-trip time and expected full number
---   ackOf n st                how far the ACK's number lies after the front: so many packets go
---   judge len front sent n    refusals 9 and 10, over the number of packets, the front's number and how many are sent; judgeOn   on the books
---   takeRtt rtt st            the round-trip time taken over
---   acknowledged c d full st  d packets acknowledged
---   refused, done, update     a refused ACK, an accepted one; the call. The lent areas are only read
---   verdictOf, booksOf, saidOf   an answer's verdict, its books, and what it says, as the rules have them
--- Assumes nothing.
+-- Document 01, "ACK", on the books and the lent areas. "First to next unsent, inclusive. RTT is taken over; then the
+-- full number is tested .. Loss entries below the ACK go (`recovered`), then packets below it (`received`). Both counts
+-- and the full number are returned." "All stays as before; 11 alone keeps a new RTT."
+--   fullOf, rttOf                the full number and the round-trip time of an ACK, if it has them
+--   with b rtt e                 b with another round-trip time and expected full number
+--   ackOf n st                   how far the ACK's number lies after the front: the number of packets acknowledged
+--   judge len front sent n       refusals 9 and 10, from the number of packets, the front and how many are sent
+--   judgeOn n st                 the same, on the books
+--   takeRtt rtt st               the round-trip time taken over
+--   acknowledged c d full st     d packets acknowledged
+--   refused, done, update        a refused ACK, an accepted one; the call. The lent areas are only read
+--   verdictOf, booksOf, saidOf   an answer's verdict, its books, and its values, as in the rules
 pub mod Laws
 pub mod Stands
 use mathlib.Core.Option.{Option, none, some}
 use Prim.Native.Nat.{ℕ, _-_}
 use lib.Dec.{ltb, eqb}
 use lib.ListN.{take}
-use Rattle.numbers.specs.declared.SeqNumber.{SeqNumber}
-use Rattle.numbers.specs.Modular.{seqs, plus, dist}
-use Rattle.refusals.specs.declared.Refusal.{Refusal}
-use Rattle.refusals.specs.declared.Refusal.the-variants.{Empty, InvalidAck}
-use Rattle.refusals.specs.declared.Verdict.{Verdict}
-use Rattle.refusals.specs.declared.Verdict.the-variants.{Accepted, Refused}
-use Rattle.refusals.specs.Verdict.{when, answer}
-use Rattle.rtt.specs.declared.Rtt.{Rtt}
+use Rattle.rules_numbers.specs.declared.SeqNumber.{SeqNumber}
+use Rattle.rules_numbers.specs.Modular.{seqs, plus, dist}
+use Rattle.rules_refusals.specs.declared.Refusal.{Refusal}
+use Rattle.rules_refusals.specs.declared.Refusal.the-variants.{Empty, InvalidAck}
+use Rattle.rules_refusals.specs.declared.Verdict.{Verdict}
+use Rattle.rules_refusals.specs.declared.Verdict.the-variants.{Accepted, Refused}
+use Rattle.rules_refusals.specs.Verdict.{when, answer}
+use Rattle.rules_numbers.specs.declared.Rtt.{Rtt}
 use Rattle.rules.specs.Settings.{Settings}
 use Rattle.rules.specs.Sender.{wireSizes}
 use Rattle.rules.specs.Ack.{given, expect}

@@ -1,4 +1,4 @@
-// An ACK, taken by the send buffer: document 01, "ACK", and refusals 9 to 11; the Rust's `update_largest_acked_seq_number`.
+// An ACK on the send buffer: document 01, "ACK", and refusals 9 to 11; the Rust's `update_largest_acked_seq_number`.
 ghost use mathlib.Core.Path.{_≡_};
 ghost use Rattle.rules.specs.Ack.{given, expect};
 ghost use Rattle.rules.specs.Refusals.{fullVerdict};
@@ -7,31 +7,31 @@ ghost use Rattle.buffer_ack.specs.Ack.{fullOf, rttOf, with, judge, done,
 ghost use Rattle.buffer_ack.specs.Ack.Laws.{Acceptable, Asked};
 use buffer::SendBuffer;
 use buffer::Settings;
-use numbers::SeqNumber;
-use refusals::Refusal;
-use refusals::Verdict;
-use rtt::Rtt;
+use rules_numbers::Rtt;
+use rules_numbers::SeqNumber;
+use rules_refusals::Refusal;
+use rules_refusals::Verdict;
 
-// The full number that an ACK brings, or that it brings none.
+// The full number of an ACK, if it has one.
 pub enum FullAck {
     None,
     Number(u32),
 }
 
-// The round-trip time that an ACK brings, or that it brings none.
+// The round-trip time of an ACK, if it has one.
 pub enum AckRtt {
     None,
     Measured(Rtt),
 }
 
-// What an accepted ACK came to: how many packets were acknowledged, how many of them were on the loss list, and the full number it brought.
+// What an accepted ACK did: packets acknowledged, how many of them were on the loss list, and the ACK's full number.
 pub struct AckAction {
     pub received: u32,
     pub recovered: u32,
     pub send_ack2: FullAck,
 }
 
-// The books afterwards, with what the ACK came to or why it is refused.
+// The books afterwards, with what the ACK did or why it is refused.
 pub enum Acked {
     Done(SendBuffer, AckAction),
     Refused(SendBuffer, Refusal),
@@ -75,10 +75,10 @@ fn judge(b: SendBuffer, ack_number: SeqNumber) -> Verdict
     let invalid = Refusal::InvalidAck {
         ack_number,
         first,
-        next: first.plus(b.sent),
+        next: numbers::plus(first, b.sent),
     };
     let outside = refusals::when(
-        b.sent < first.distance(ack_number),
+        b.sent < numbers::distance(first, ack_number),
         invalid,
         Verdict::Accepted,
     );
@@ -102,7 +102,7 @@ fn judge_full(full_ack: FullAck, expected: u64) -> Verdict
     }
 }
 
-// The `d` packets at the front are acknowledged.
+// Acknowledges the `d` packets at the front.
 fn acknowledge(
     b: SendBuffer,
     c: Settings,
@@ -128,8 +128,8 @@ fn acknowledge(
     )
 }
 
-// Takes an ACK of `ack_number`: from the first buffered number to next unsent, both included. The round-trip time that it brings is kept
-// even where its full number is stale; any other refusal leaves the books as they were. The lent areas are only read.
+// Takes an ACK of `ack_number`, which may lie from the front to next unsent, inclusive. Its round-trip time is kept
+// even if its full number is stale; any other refusal leaves the books unchanged. The lent areas are only read.
 pub fn update_largest_acked_seq_number(
     b: SendBuffer,
     c: Settings,
@@ -150,7 +150,14 @@ pub fn update_largest_acked_seq_number(
             match judge_full(full_ack, taken.expected) {
                 Verdict::Refused(r) => Acked::Refused(taken, r),
                 Verdict::Accepted => {
-                    acknowledge(taken, c, front.distance(ack_number), full_ack, ring, lost)
+                    acknowledge(
+                        taken,
+                        c,
+                        numbers::distance(front, ack_number),
+                        full_ack,
+                        ring,
+                        lost,
+                    )
                 }
             }
         }

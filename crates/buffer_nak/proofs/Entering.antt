@@ -1,6 +1,6 @@
--- The invariant of `enter_runs`: after i turns the area holds the list with the first i runs entered. A turn's `enter_run` sees just that list
--- in the area's first elements, has room because the whole list has, and leaves the elements behind as they first were.
--- Assumes nothing.
+-- The invariant of `enter_runs`: after i turns the area holds the list with the first i runs entered. In a turn,
+-- `enter_run` finds that list in the area's first elements, has room because the whole list has, and leaves the other
+-- elements unchanged.
 use mathlib.Core.Path.{_≡_, refl, sym, ap, _∙_}
 use mathlib.Core.List.{List}
 use Prim.Native.Nat.{ℕ, _+_, _*_, _≤_, _<_}

@@ -1,13 +1,14 @@
--- A loss report on the books and the lent areas. Document 01, "Loss words": "The answer lists, in order, maximal runs of one kind and
--- consecutive numbers, also across items; each has an exclusive end. .. Added numbers enter the list once."
---   withLost b n           another length of the loss list
---   runsFor b ws           the answer's runs to the words ws
---   enterRun f kind a e xs the numbers from a to e, exclusive, enter the list xs where the kind is Added; f is the front
---   enterRuns f rs xs      the runs rs do, one after the other
---   lostAfter b ws lost    the loss list after the report
---   Left, left             the call's answer, and the loss area and the answer list at its end
---   add                    the call
--- Assumes nothing.
+-- A loss report on the books and the lent areas. Document 01, "Loss words": "The answer lists, in order, maximal runs
+-- of one kind and consecutive numbers, also across items; each has an exclusive end. .. Added numbers enter the list
+-- once."
+--   withLost b n             b with another length of the loss list
+--   runsFor b ws             the runs of the answer to the words ws
+--   enterRun f kind a e xs   the list xs with the numbers from a up to e, exclusive, entered if the kind is Added; f is
+--                            the front
+--   enterRuns f rs xs        the same for the runs rs, one after the other
+--   lostAfter b ws lost      the loss list after the report
+--   Left, left               the call's answer, and the loss area and the answer list afterwards
+--   add                      the call
 pub mod Laws
 pub mod Stands
 use mathlib.Core.Bool.{cond}
@@ -15,7 +16,7 @@ use mathlib.Core.List.{List, [], _∷_}
 use Prim.Native.Nat.{ℕ}
 use lib.Dec.{eqb}
 use lib.ListN.{length, take}
-use Rattle.numbers.specs.Modular.{seqs, dist}
+use Rattle.rules_numbers.specs.Modular.{seqs, dist}
 use Rattle.rules.specs.Losses.{LossRun, wordsOf, joined, endOf, itemsOf}
 use Rattle.loss_list.specs.LossList.{over, entered}
 use Rattle.loss_words.specs.Runs.{codeOf, wordsFor, runsAt}

@@ -1,11 +1,11 @@
-// A loss report, taken by the send buffer: document 01, "Loss words"; the Rust's `add_to_loss_list`.
+// A loss report on the send buffer: document 01, "Loss words"; the Rust's `add_to_loss_list`.
 ghost use mathlib.Core.Path.{_≡_};
 ghost use lib.ListN.{take};
 ghost use Rattle.loss_list.specs.LossList.Laws.{Fits, Left};
 ghost use Rattle.buffer_nak.specs.Report.{enterRun, left, add};
 ghost use Rattle.buffer_nak.specs.Report.Laws.{enteredTo, Readable, Reportable};
 use buffer::SendBuffer;
-use numbers::SeqNumber;
+use rules_numbers::SeqNumber;
 
 // The books afterwards, and how many runs the answer has.
 pub struct Reported {
@@ -13,7 +13,7 @@ pub struct Reported {
     pub runs: usize,
 }
 
-// Enters the numbers of a run into the loss list where they are Added. The answer is the list's new length.
+// Enters the numbers of a run into the loss list if they are Added. Returns the list's new length.
 fn enter_run(
     lost: &mut [u32],
     len: usize,
@@ -26,13 +26,13 @@ fn enter_run(
     ensures { λ r. ⌜ Left r (now (lost .exit)) (enterRun (front .0) kind first end (take len (now (lost .entry)))) (now (lost .entry)) ⌝ }
 {
     if kind == loss_words::runs::ADDED {
-        let count = SeqNumber(first).distance(SeqNumber(end));
+        let count = numbers::distance(SeqNumber(first), SeqNumber(end));
         return loss_list::enter(lost, len, front, SeqNumber(first), count);
     }
     len
 }
 
-// Enters the Added ones of the `count` runs in `runs`. The answer is the list's new length.
+// Enters the Added numbers of the `count` runs in `runs`. Returns the list's new length.
 fn enter_runs(runs: &[u32], count: usize, front: SeqNumber, lost: &mut [u32], len: usize) -> usize
     requires { ⌜ Readable (now runs) count (front .0) len (now lost) ⌝ }
     ensures { λ r. ⌜ Left r (now (lost .exit)) (enteredTo (front .0) (now (runs .entry)) count (take len (now (lost .entry)))) (now (lost .entry)) ⌝ }
@@ -47,8 +47,8 @@ fn enter_runs(runs: &[u32], count: usize, front: SeqNumber, lost: &mut [u32], le
     n
 }
 
-// Enters the Added numbers of a well-formed report into the loss list, and writes the answer's runs to `out`. The cost is one pass
-// over the list for each run, and the numbers that are Added, never the width of a range.
+// Enters the Added numbers of a well-formed report into the loss list, and writes the runs of the answer to `out`. The
+// cost is one pass over the list per run, plus the numbers Added; it doesn't grow with the width of a range.
 pub fn add_to_loss_list(b: SendBuffer, words: &[u32], lost: &mut [u32], out: &mut [u32]) -> Reported
     requires { ⌜ Reportable b (now words) (now lost) (now out) ⌝ }
     ensures { λ r. ⌜ left r (now (lost .exit)) (now (out .exit)) ≡ add b (now (words .entry)) (now (lost .entry)) (now (out .entry)) ⌝ }

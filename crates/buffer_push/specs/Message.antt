@@ -1,14 +1,18 @@
--- A message on the books and the lent areas. Document 01, "Message": "It becomes max(1, ceil(length / size)) packets .. Pushing into a full
--- buffer first removes the front packet, from the loss list too. .. Answer: packets made, packets removed, wire bytes removed"; "Byte count":
--- "Plus wire size on a push, minus on removal by a full buffer". That these are the rules' is in Message.OnePacket and Message.Laws.
---   entryOf c t m len k    packet k of a message of len bytes, as its entry
---   gone, makeRoom c st    what goes from a full buffer, and what is left; append c e st   one packet more at the back
---   Work, World            the state with the three counts of the answer, and that with the store
---   roomed, appended       the same two on the counts too
---   pushOne, pushes        the next packet of a message, and the n next; begun b   the books once the message has its number,
---                          and no flushed payload is held; noneYet b   these, and no packet made; opened   the world then
---   message                the whole message
--- Assumes nothing.
+-- A message on the books and the lent areas. Document 01, "Message": "It becomes max(1, ceil(length / size)) packets ..
+-- Pushing into a full buffer first removes the front packet, from the loss list too. .. Answer: packets made, packets
+-- removed, wire bytes removed"; "Byte count": "Plus wire size on a push, minus on removal by a full buffer".
+-- Message.Laws and Message.OnePacket show that this agrees with the rules.
+--   entryOf c t m len k   the entry of packet k of a message of len bytes
+--   gone, makeRoom c st   the packet removed from a full buffer, and the state without it
+--   append c e st         one more packet at the back
+--   Work, work            the state with the three counts of the answer
+--   Pushing, pushing      the same with the store
+--   roomed, appended      makeRoom and append, with the counts
+--   nextPlace c st        where the payload of the next packet goes in the store
+--   pushOne, pushes       the next packet of a message, and the next n
+--   begun b               the books once the message has its number and no flushed payload is held
+--   noneYet b, opened     these books with no packet made yet; the pushing that starts from them
+--   message               the whole message
 pub mod Laws
 pub mod OnePacket
 pub mod Parts
@@ -20,9 +24,9 @@ use Prim.Native.Nat.{ℕ, zero, suc, _+_, _-_, _*_}
 use lib.Dec.{leb}
 use lib.ListN.{length, take, drop}
 use lib.Seq.{paste}
-use Rattle.numbers.specs.Modular.{msgs, plus}
-use Rattle.encapsulate.specs.Header.{placeBits}
-use Rattle.encapsulate.specs.Split.{count, placeOf, startOf, lengthOf}
+use Rattle.rules_numbers.specs.Modular.{msgs, plus}
+use Rattle.rules_packets.specs.Header.{placeBits}
+use Rattle.rules_packets.specs.Split.{count, placeOf, startOf, lengthOf}
 use Rattle.ring.specs.declared.Entry.{Entry}
 use Rattle.ring.specs.Entry.{entry, writeE}
 use Rattle.ring.specs.Ring.{slotOf, pushed}
@@ -63,12 +67,12 @@ pub record Work : Type 0 where
 abbrev pub work : Pushed → List ℕ → List ℕ → Work
 work p ring lost = record { state = state (p .buffer) ring lost; made = p .made; removed = p .removed; wire = p .bytes }
 
-pub record World : Type 0 where
+pub record Pushing : Type 0 where
   pub work : Work
   pub store : List ℕ
 
-abbrev pub world : Work → List ℕ → World
-world w store = record { work = w; store = store }
+abbrev pub pushing : Work → List ℕ → Pushing
+pushing w store = record { work = w; store = store }
 
 unfoldable pub roomed : Settings → Work → Work
 roomed c w = record {
@@ -81,12 +85,12 @@ roomed c w = record {
 unfoldable pub appended : Settings → Entry → Work → Work
 appended c e w = record { state = append c e (w .state); made = suc (w .made); removed = w .removed; wire = w .wire }
 
--- where the payload of the next packet comes to lie
+-- where the payload of the next packet goes
 abbrev pub nextPlace : Settings → State → ℕ
 nextPlace c st = slotOf (st .books .ring) (st .books .ring .len) * c .size
 
 module _ (c : Settings) (time number : ℕ) (payload : List ℕ) where
-  unfoldable pub pushOne : World → World
+  unfoldable pub pushOne : Pushing → Pushing
   pushOne w =
       let i = w .work .made in
       let r = roomed c (w .work) in
@@ -95,7 +99,7 @@ module _ (c : Settings) (time number : ℕ) (payload : List ℕ) where
         store = paste (w .store) (nextPlace c (r .state)) (drop (startOf (c .size) i) payload) (lengthOf (c .size) (length payload) i);
       }
 
-  unfoldable pub pushes : ℕ → World → World
+  unfoldable pub pushes : ℕ → Pushing → Pushing
   pushes zero w = w
   pushes (suc n) w = pushes n (pushOne w)
 
@@ -115,9 +119,9 @@ begun b = record {
 abbrev pub noneYet : SendBuffer → Pushed
 noneYet b = record { buffer = b; made = 0; removed = 0; bytes = 0 }
 
-unfoldable pub opened : State → List ℕ → World
-opened st store = world (work (noneYet (begun (st .books))) (st .ring) (st .lost)) store
+unfoldable pub opened : State → List ℕ → Pushing
+opened st store = pushing (work (noneYet (begun (st .books))) (st .ring) (st .lost)) store
 
-unfoldable pub message : Settings → ℕ → List ℕ → State → List ℕ → World
+unfoldable pub message : Settings → ℕ → List ℕ → State → List ℕ → Pushing
 message c time payload st store =
     pushes c time (st .books .message .0) payload (count (c .size) (length payload)) (opened st store)

@@ -1,22 +1,22 @@
-// How a message enters the send buffer: document 01, "Message" and "Byte count"; the Rust's `SendBuffer::push_data`, once for each packet of
-// the message. The layer above checks the books and what the call brings, and only then calls this.
+// A message enters the send buffer: document 01, "Message" and "Byte count"; the Rust's `SendBuffer::push_data`, once
+// for each packet of the message. The layer above has checked the books and the message before it calls this.
 ghost use mathlib.Core.Path.{_≡_};
 ghost use Prim.Native.Nat.{_+_, _*_, _≤_, _<_};
-ghost use Rattle.encapsulate.specs.Header.{placeBits};
+ghost use Rattle.rules_packets.specs.Header.{placeBits};
 ghost use Rattle.ring.specs.Entry.{entry};
 ghost use Rattle.ring.specs.Ring.{slotOf};
 ghost use Rattle.buffer.specs.State.{state, settingsOf};
-ghost use Rattle.buffer_push.specs.Message.{work, world, roomed, pushOne, begun, noneYet, message};
+ghost use Rattle.buffer_push.specs.Message.{work, pushing, roomed, pushOne, begun, noneYet, message};
 ghost use Rattle.buffer_push.specs.Message.Parts.{Roomable, Appendable, Appended};
 ghost use Rattle.buffer_push.specs.Message.Rest.{Next};
 ghost use Rattle.buffer_push.specs.Message.Whole.{Sendable};
 use buffer::Flushed;
 use buffer::SendBuffer;
 use buffer::Settings;
-use encapsulate::Piece;
-use numbers::MsgNumber;
 use ring::Entry;
 use ring::Ring;
+use rules_numbers::MsgNumber;
+use rules_packets::Piece;
 
 // The books after a message, and what the call answers: packets made, packets removed, wire bytes removed.
 pub struct Pushed {
@@ -26,7 +26,7 @@ pub struct Pushed {
     pub bytes: u64,
 }
 
-// Where the payload of the next packet comes to lie in the store.
+// Where the payload of the next packet goes in the store.
 fn next_place(at: Ring, size: usize) -> usize
     requires { ⌜ (at .slot < at .cap) × (at .len ≤ at .cap) × (at .cap ≤ 8192) × (size ≤ 1456) ⌝ }
     ensures { λ r. ⌜ r ≡ slotOf at (at .len) * size ⌝ }
@@ -34,7 +34,7 @@ fn next_place(at: Ring, size: usize) -> usize
     at.slot_of(at.len) * size
 }
 
-// A packet that is pushed is unsent.
+// The entry of a pushed packet, which is unsent.
 fn entry_of(time: u64, number: MsgNumber, piece: Piece) -> Entry
     ensures { λ r. ⌜ r ≡ entry time (number .0) (placeBits (piece .place)) (piece .len) 0 0 ⌝ }
 {
@@ -42,14 +42,14 @@ fn entry_of(time: u64, number: MsgNumber, piece: Piece) -> Entry
     Entry {
         time,
         message: number.0 as u64,
-        place: place.bits() as u64,
+        place: encapsulate::place_bits(place) as u64,
         len: piece.len as u64,
         count: 0,
         resend: 0,
     }
 }
 
-// Where the buffer is full the front packet goes, from the loss list too, and is counted.
+// If the buffer is full, removes the front packet, from the loss list too, and counts it.
 fn make_room(p: Pushed, c: Settings, ring: &[u64], lost: &[u32]) -> Pushed
     requires { ⌜ Roomable (settingsOf c) (work p (now ring) (now lost)) ⌝ }
     ensures { λ r. ⌜ work r (now (ring .entry)) (now (lost .entry))
@@ -69,7 +69,7 @@ fn make_room(p: Pushed, c: Settings, ring: &[u64], lost: &[u32]) -> Pushed
     p
 }
 
-// A packet more at the back, where there is room.
+// Appends a packet at the back; there is room.
 fn append(p: Pushed, c: Settings, e: Entry, ring: &mut [u64]) -> Pushed
     requires { ⌜ Appendable (settingsOf c) (p .buffer) (p .made) (now ring) e ⌝ }
     ensures { λ r. ⌜ Appended (settingsOf c) e p (now (ring .entry)) r (now (ring .exit)) ⌝ }
@@ -86,7 +86,7 @@ fn append(p: Pushed, c: Settings, e: Entry, ring: &mut [u64]) -> Pushed
     }
 }
 
-// The next packet of a message of `n`: room is made, its payload is copied to its slot, its entry comes behind the others.
+// Pushes the next packet of a message of `n`: makes room, copies the payload to its slot, appends the entry.
 fn push_data(
     p: Pushed,
     c: Settings,
@@ -98,9 +98,9 @@ fn push_data(
     lost: &[u32],
     store: &mut [u8],
 ) -> Pushed
-    requires { ⌜ Next (settingsOf c) time (number .0) (now payload) n (world (work p (now ring) (now lost)) (now store)) ⌝ }
-    ensures { λ r. ⌜ world (work r (now (ring .exit)) (now (lost .entry))) (now (store .exit))
-        ≡ pushOne (settingsOf c) time (number .0) (now (payload .entry)) (world (work p (now (ring .entry)) (now (lost .entry))) (now (store .entry))) ⌝ }
+    requires { ⌜ Next (settingsOf c) time (number .0) (now payload) n (pushing (work p (now ring) (now lost)) (now store)) ⌝ }
+    ensures { λ r. ⌜ pushing (work r (now (ring .exit)) (now (lost .entry))) (now (store .exit))
+        ≡ pushOne (settingsOf c) time (number .0) (now (payload .entry)) (pushing (work p (now (ring .entry)) (now (lost .entry))) (now (store .entry))) ⌝ }
 {
     let size = c.size as usize;
     let piece = encapsulate::cut(payload.len(), size, n, p.made);
@@ -112,7 +112,7 @@ fn push_data(
     append(q, c, entry_of(time, number, piece), ring)
 }
 
-// The message takes its number, and a flushed payload is no longer held.
+// Gives the message its number; a flushed payload is no longer held.
 fn begin(b: SendBuffer) -> Pushed
     ensures { λ r. ⌜ r ≡ noneYet (begun b) ⌝ }
 {
@@ -128,7 +128,7 @@ fn begin(b: SendBuffer) -> Pushed
             lost: b.lost,
             bytes: b.bytes,
             rtt,
-            message: number.next(),
+            message: numbers::next_message(number),
             expected: b.expected,
             flushed: Flushed::Nothing,
         },
@@ -138,7 +138,7 @@ fn begin(b: SendBuffer) -> Pushed
     }
 }
 
-// A whole message, as packets of the settings' size.
+// Pushes a whole message, in packets of the size that is set.
 pub fn push_message(
     b: SendBuffer,
     c: Settings,
@@ -149,7 +149,7 @@ pub fn push_message(
     store: &mut [u8],
 ) -> Pushed
     requires { ⌜ Sendable (settingsOf c) (state b (now ring) (now lost)) time (now payload) (now store) ⌝ }
-    ensures { λ r. ⌜ world (work r (now (ring .exit)) (now (lost .entry))) (now (store .exit))
+    ensures { λ r. ⌜ pushing (work r (now (ring .exit)) (now (lost .entry))) (now (store .exit))
         ≡ message (settingsOf c) time (now (payload .entry)) (state b (now (ring .entry)) (now (lost .entry))) (now (store .entry)) ⌝ }
 {
     let n = encapsulate::count(payload.len(), c.size as usize);

@@ -1,9 +1,9 @@
-// The run: document 01, "Run"; the Rust's `next_snd_actions` with its `SenderAlgorithmIterator`. The crate choice says which rule applies, the
-// crate sending does what it says, and here they are done one after the other.
+// The run: document 01, "Run"; the Rust's `next_snd_actions` with its `SenderAlgorithmIterator`. The crate run_choice
+// decides which rule applies, run_effects does what the rule says, and this crate is the loop over both.
 ghost use mathlib.Core.Path.{_≡_};
 ghost use Prim.Native.Nat.{_-_};
 ghost use Rattle.buffer.specs.State.{settingsOf, state};
-ghost use Rattle.buffer_run.specs.Run.{world, run};
+ghost use Rattle.buffer_run.specs.Run.{walk, run};
 ghost use Rattle.buffer_run.specs.Run.Turns.{Turning, Done, Swept, Runnable};
 use buffer::SendBuffer;
 use buffer::Settings;
@@ -14,14 +14,14 @@ use run_effects::resend;
 use run_effects::unsent;
 use run_effects::waits;
 
-// The books after a run, how many records it wrote, and the budget that is left.
+// The books after a run, how many records it wrote, and the budget left.
 pub struct Ran {
     pub buffer: SendBuffer,
     pub records: usize,
     pub left: u32,
 }
 
-// What a turn left, and whether it ends the run.
+// What is left after a turn, and whether it ends the run.
 struct Step {
     written: Written,
     ends: bool,
@@ -33,7 +33,7 @@ fn turned(written: Written, ends: bool) -> Step
     Step { written, ends }
 }
 
-// The first of rules 2 to 7 that applies.
+// Does the first of rules 2 to 7 that applies.
 fn turn(
     b: SendBuffer,
     c: Settings,
@@ -80,7 +80,7 @@ fn less(a: u32, b: usize) -> u32
     if (a as usize) < b { 0 } else { a - b as u32 }
 }
 
-// Rule 1, where the front is late.
+// Does rule 1, if the front is late.
 fn sweep(
     b: SendBuffer,
     c: Settings,
@@ -102,7 +102,7 @@ fn sweep(
     leaving::drop_too_late_packets(b, k, lost, out, 0)
 }
 
-// A run: what to send, to drop and to wait for, as records of 24 bytes in `out`. While budget remains, the first rule that applies.
+// A run: writes to `out`, as 24-byte records, what to send, drop and wait for.
 pub fn next_snd_actions(
     b: SendBuffer,
     c: Settings,
@@ -114,7 +114,7 @@ pub fn next_snd_actions(
     out: &mut [u8],
 ) -> Ran
     requires { ⌜ Runnable (settingsOf c) «ts_now» budget (state b (now ring) (now lost)) (now out) ⌝ }
-    ensures { λ r. ⌜ world (state (r .buffer) (now (ring .exit)) (now (lost .entry))) (now (out .exit)) (r .records) (r .left)
+    ensures { λ r. ⌜ walk (state (r .buffer) (now (ring .exit)) (now (lost .entry))) (now (out .exit)) (r .records) (r .left)
         ≡ run (settingsOf c) «ts_now» draining budget (state b (now (ring .entry)) (now (lost .entry))) (now (out .entry)) ⌝ }
 {
     if budget < 1 {

@@ -1,16 +1,15 @@
 -- The answers of splitting as numbers.
---   packetsOf a    of the number of packets: 0 and how many, or the refusal's number
---   nothing n      no packet, with refusal n or 0
---   pieceOf a      of one packet: 0, that it was found, its place's bits, start and length; 0 and nothing found; or the refusal's number
--- Assumes nothing.
+--   packetsOf a   0 and the number of packets, or the refusal's number
+--   nothing n     no packet, with refusal n or 0
+--   pieceOf a     0, found, and the packet's place bits, start and length; 0 and not found; or the refusal's number
 use mathlib.Core.Bool.{true, false}
 use Prim.Native.Nat.{ℕ}
-use Rattle.refusals.specs.Table.{numberOf}
-use Rattle.encapsulate.specs.declared.Split.{Split}
-use Rattle.encapsulate.specs.declared.Split.the-variants as made
-use Rattle.encapsulate.specs.declared.Cutting.{Cutting}
-use Rattle.encapsulate.specs.declared.Cutting.the-variants as cutting
-use Rattle.encapsulate.specs.Header.{placeBits}
+use Rattle.rules_refusals.specs.Table.{numberOf}
+use Rattle.rules_packets.specs.declared.Split.{Split}
+use Rattle.rules_packets.specs.declared.Split.the-variants as made
+use Rattle.rules_packets.specs.declared.Cutting.{Cutting}
+use Rattle.rules_packets.specs.declared.Cutting.the-variants as cutting
+use Rattle.rules_packets.specs.Header.{placeBits}
 use Rattle.compare_entries.specs.declared.of_message.PacketsAnswer.{PacketsAnswer}
 use Rattle.compare_entries.specs.declared.of_message.PieceAnswer.{PieceAnswer}
 

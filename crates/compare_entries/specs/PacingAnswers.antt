@@ -1,17 +1,17 @@
--- What pacing answers, as numbers.
---   fresh mode rate overhead      the numbers that a new one is asked for with
---   pacingMade p a, pacingPaced p a    of the answers of `new` and `on_input`: 0, the period (0 for none) and the numbers, or the refusal's
---                                      number and p as it was
+-- The answers of pacing as numbers.
+--   fresh mode rate overhead      new pacing, as numbers
+--   pacingAnswer r n p            an answer from its three fields
+--   pacingMade, pacingPaced p a   the answers of `new` and `on_input`: 0, the period (0 for none) and the new numbers;
+--                                 or the refusal's number and p unchanged
 --   pacingNew, pacingOnInput      the calls
--- Assumes nothing.
 use Prim.Native.Nat.{ℕ}
-use Rattle.refusals.specs.Table.{numberOf}
-use Rattle.pacing.specs.declared.Made.{Made}
-use Rattle.pacing.specs.declared.Made.the-variants as making
-use Rattle.pacing.specs.declared.Paced.{Paced}
-use Rattle.pacing.specs.declared.Paced.the-variants as pace
-use Rattle.pacing.specs.Books as books
-use Rattle.pacing.specs.Pacing.{onInput}
+use Rattle.rules_refusals.specs.Table.{numberOf}
+use Rattle.rules_pacing.specs.declared.Made.{Made}
+use Rattle.rules_pacing.specs.declared.Made.the-variants as making
+use Rattle.rules_pacing.specs.declared.Paced.{Paced}
+use Rattle.rules_pacing.specs.declared.Paced.the-variants as pace
+use Rattle.rules_pacing.specs.Kept as books
+use Rattle.rules_pacing.specs.Pacing.{onInput}
 use Rattle.host_structs.specs.declared.pacings.FlatPacing.{FlatPacing}
 use Rattle.host_structs.specs.Senders.{modeOf, controlOf, pacingFrom}
 use Rattle.compare_entries.specs.declared.of_pacing.PacingAnswer.{PacingAnswer}

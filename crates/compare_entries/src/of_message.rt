@@ -1,9 +1,9 @@
 // How a message becomes packets.
 ghost use mathlib.Core.Path.{_≡_};
-ghost use Rattle.encapsulate.specs.Split.{split, piece};
+ghost use Rattle.rules_packets.specs.Split.{split, piece};
 ghost use Rattle.compare_entries.specs.MessageAnswers.{packetsOf, nothing, pieceOf};
-use encapsulate::Cutting;
-use encapsulate::Split;
+use rules_packets::Cutting;
+use rules_packets::Split;
 
 // How many packets a message becomes.
 #[repr(C)]
@@ -12,7 +12,8 @@ pub struct PacketsAnswer {
     pub packets: usize,
 }
 
-// One packet: its place's bits, where its payload starts in the message, and its length; not `found` where the message has fewer packets.
+// One packet: its place bits, where its payload starts in the message, and its length. `found` is false if the message
+// has fewer packets.
 #[repr(C)]
 pub struct PieceAnswer {
     pub refusal: u32,
@@ -31,7 +32,7 @@ fn packets_of(a: Split) -> PacketsAnswer
             packets,
         },
         Split::Refused(refusal) => PacketsAnswer {
-            refusal: refusal.number(),
+            refusal: refusals::number(refusal),
             packets: 0,
         },
     }
@@ -58,25 +59,25 @@ fn piece_of(a: Cutting) -> PieceAnswer
             PieceAnswer {
                 refusal: 0,
                 found: true,
-                place: place.bits(),
+                place: encapsulate::place_bits(place),
                 start: piece.start,
                 len: piece.len,
             }
         }
         Cutting::Beyond => nothing(0),
-        Cutting::Refused(refusal) => nothing(refusal.number()),
+        Cutting::Refused(refusal) => nothing(refusals::number(refusal)),
     }
 }
 
 #[no_mangle]
-pub extern "C" fn leaves_split_packets(len: usize, size: usize) -> PacketsAnswer
+pub extern "C" fn compare_split_packets(len: usize, size: usize) -> PacketsAnswer
     ensures { λ r. ⌜ r ≡ packetsOf (split size len) ⌝ }
 {
     packets_of(encapsulate::packets(len, size))
 }
 
 #[no_mangle]
-pub extern "C" fn leaves_split_packet(len: usize, size: usize, k: usize) -> PieceAnswer
+pub extern "C" fn compare_split_packet(len: usize, size: usize, k: usize) -> PieceAnswer
     ensures { λ r. ⌜ r ≡ pieceOf (piece size len k) ⌝ }
 {
     piece_of(encapsulate::packet(len, size, k))

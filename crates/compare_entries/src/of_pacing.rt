@@ -1,15 +1,15 @@
-// Live pacing by itself. What it keeps crosses as a host's sender has it.
+// Live pacing by itself. Its kept state is passed as it is in a host's sender (`FlatPacing`).
 ghost use mathlib.Core.Path.{_≡_};
 ghost use Rattle.compare_entries.specs.PacingAnswers.{fresh, pacingMade, pacingPaced, pacingNew, pacingOnInput};
 use host_structs::pacings::FlatPacing;
 use host_structs::pacings::mode_of;
 use host_structs::pacings::pacing_from;
-use pacing::Made;
-use pacing::Paced;
-use pacing::SenderCongestionControl;
-use rate::RateEstimation;
+use rules_pacing::Made;
+use rules_pacing::Paced;
+use rules_pacing::RateEstimation;
+use rules_pacing::SenderCongestionControl;
 
-// Pacing after the call, and the new period in microseconds, 0 for none: a period is at least 1.
+// Pacing after the call, and the new period in microseconds; 0 means none, since a period is at least 1.
 #[repr(C)]
 pub struct PacingAnswer {
     pub refusal: u32,
@@ -27,7 +27,7 @@ fn made(given: FlatPacing, a: Made) -> PacingAnswer
             pacing: pacing_from(c),
         },
         Made::Refused(refusal) => PacingAnswer {
-            refusal: refusal.number(),
+            refusal: refusals::number(refusal),
             period: 0,
             pacing: given,
         },
@@ -49,7 +49,7 @@ fn paced(given: FlatPacing, a: Paced) -> PacingAnswer
             pacing: pacing_from(c),
         },
         Paced::Refused(refusal) => PacingAnswer {
-            refusal: refusal.number(),
+            refusal: refusals::number(refusal),
             period: 0,
             pacing: given,
         },
@@ -75,21 +75,18 @@ fn fresh(mode: u32, rate: u64, overhead: u64) -> FlatPacing
     }
 }
 
-// Pacing at the start.
+// Pacing of a new sender.
 #[no_mangle]
-pub extern "C" fn leaves_pacing_new(mode: u32, rate: u64, overhead: u64) -> PacingAnswer
+pub extern "C" fn compare_pacing_new(mode: u32, rate: u64, overhead: u64) -> PacingAnswer
     ensures { λ r. ⌜ r ≡ pacingNew mode rate overhead ⌝ }
 {
     let given = fresh(mode, rate, overhead);
-    made(
-        given,
-        SenderCongestionControl::new(mode_of(mode, rate, overhead)),
-    )
+    made(given, pacing::new(mode_of(mode, rate, overhead)))
 }
 
 // Packets and payload bytes that come in at `now`.
 #[no_mangle]
-pub extern "C" fn leaves_pacing_on_input(
+pub extern "C" fn compare_pacing_on_input(
     pacing: FlatPacing,
     now: u64,
     packets: u64,
@@ -97,5 +94,8 @@ pub extern "C" fn leaves_pacing_on_input(
 ) -> PacingAnswer
     ensures { λ r. ⌜ r ≡ pacingOnInput pacing now packets bytes ⌝ }
 {
-    paced(pacing, pacing.control().on_input(now, packets, bytes))
+    paced(
+        pacing,
+        pacing::on_input(pacing.control(), now, packets, bytes),
+    )
 }

@@ -2,54 +2,29 @@
 // what the Rust's `Encapsulation` keeps, the next message number and the next sequence number.
 ghost use mathlib.Core.Path.{_≡_};
 ghost use Prim.Native.Nat.{_≤_, _<_, min};
-ghost use mathlib.Core.List.{_++_};
-ghost use Rattle.encapsulate.specs.Header.{placeBits, bit, second, be32, header, stamp};
-ghost use Rattle.encapsulate.specs.Split.{judge, split, placeOf, pieceOf, nth, piece};
-ghost use Rattle.encapsulate.specs.Split.Laws.{Sized, Counted, Cut};
-use numbers::MsgNumber;
-use numbers::SeqNumber;
-use refusals::Refusal;
-use refusals::Verdict;
+ghost use Rattle.rules_packets.specs.Header.{placeBits, bit, second, header, stamp};
+ghost use Rattle.rules_packets.specs.Split.{judge, split, placeOf, pieceOf, nth, piece};
+ghost use Rattle.encapsulate.specs.Laws.{Sized, Counted, Cut};
+use rules_numbers::LENGTH_MOST;
+use rules_numbers::MsgNumber;
+use rules_numbers::SIZE_MOST;
+use rules_numbers::SeqNumber;
+use rules_packets::Cutting;
+use rules_packets::Piece;
+use rules_packets::Place;
+use rules_packets::Split;
+use rules_refusals::Refusal;
+use rules_refusals::Verdict;
 
-// A packet's place in its message.
-pub enum Place {
-    First,
-    Middle,
-    Last,
-    Only,
-}
-
-// One packet of a message: its place, and which of the message's bytes are its payload.
-pub struct Piece {
-    pub place: Place,
-    pub start: usize,
-    pub len: usize,
-}
-
-// How many packets a message becomes.
-pub enum Split {
-    Packets(usize),
-    Refused(Refusal),
-}
-
-// A packet of a message, or none where the message has fewer.
-pub enum Cutting {
-    Done(Piece),
-    Beyond,
-    Refused(Refusal),
-}
-
-impl Place {
-    // The place as the two bits that the header and the action records show.
-    pub fn bits(self) -> u32
-        ensures { λ r. ⌜ (r ≡ placeBits self) × (r ≤ 3) ⌝ }
-    {
-        match self {
-            Place::First => 2,
-            Place::Middle => 0,
-            Place::Last => 1,
-            Place::Only => 3,
-        }
+// The place as the two bits that the header and the action records show.
+pub fn place_bits(place: Place) -> u32
+    ensures { λ r. ⌜ (r ≡ placeBits place) × (r ≤ 3) ⌝ }
+{
+    match place {
+        Place::First => 2,
+        Place::Middle => 0,
+        Place::Last => 1,
+        Place::Only => 3,
     }
 }
 
@@ -63,31 +38,7 @@ fn bit_of(again: bool) -> u32
 fn second_word(place: Place, again: bool, message: MsgNumber) -> u32
     ensures { λ r. ⌜ r ≡ second place again (message .0) ⌝ }
 {
-    place.bits() * 0x4000_0000 + bit_of(again) * 0x0400_0000 + message.0 % 0x0400_0000
-}
-
-// Four words as bytes, each with its highest byte first.
-fn words(a: u32, b: u32, c: u32, d: u32) -> [u8; 16]
-    ensures { λ r. ⌜ r ≡ be32 a ++ be32 b ++ be32 c ++ be32 d ⌝ }
-{
-    [
-        (a / 0x0100_0000 % 256) as u8,
-        (a / 0x0001_0000 % 256) as u8,
-        (a / 0x0000_0100 % 256) as u8,
-        (a % 256) as u8,
-        (b / 0x0100_0000 % 256) as u8,
-        (b / 0x0001_0000 % 256) as u8,
-        (b / 0x0000_0100 % 256) as u8,
-        (b % 256) as u8,
-        (c / 0x0100_0000 % 256) as u8,
-        (c / 0x0001_0000 % 256) as u8,
-        (c / 0x0000_0100 % 256) as u8,
-        (c % 256) as u8,
-        (d / 0x0100_0000 % 256) as u8,
-        (d / 0x0001_0000 % 256) as u8,
-        (d / 0x0000_0100 % 256) as u8,
-        (d % 256) as u8,
-    ]
+    place_bits(place) * 0x4000_0000 + bit_of(again) * 0x0400_0000 + message.0 % 0x0400_0000
 }
 
 // A packet's stamp: the low 32 bits of its message's time.
@@ -108,7 +59,7 @@ pub fn header(
 ) -> [u8; 16]
     ensures { λ r. ⌜ r ≡ header place again (number .0) (message .0) stamp id ⌝ }
 {
-    words(
+    octets::big_words(
         number.0 % 0x8000_0000,
         second_word(place, again, message),
         stamp,
@@ -119,8 +70,8 @@ pub fn header(
 fn judge(len: usize, size: usize) -> Verdict
     ensures { λ r. ⌜ r ≡ judge size len ⌝ }
 {
-    let long = refusals::when(1_048_576 < len, Refusal::TooLong, Verdict::Accepted);
-    let large = refusals::when(1_456 < size, Refusal::BadSetting, long);
+    let long = refusals::when(LENGTH_MOST < len, Refusal::TooLong, Verdict::Accepted);
+    let large = refusals::when((SIZE_MOST as usize) < size, Refusal::BadSetting, long);
     refusals::when(size < 1, Refusal::BadSetting, large)
 }
 

@@ -1,13 +1,13 @@
--- What each number stands for, computed from the definitions, so that one that is wrong in code and specs alike is refused.
--- Assumes nothing.
+-- The meaning of each number, computed from the definitions. This catches errors that definition and code have in
+-- common.
 use mathlib.Core.Path.{_≡_, refl}
 use mathlib.Core.Bool.{true, false}
 use mathlib.Core.List.{List, [], _∷_, map}
 use Prim.Native.Nat.{ℕ}
-use Rattle.numbers.specs.declared.SeqNumber.{SeqNumber}
-use Rattle.pacing.specs.declared.options.LiveBandwidthMode.the-variants.{Input, Estimated, Max, Unlimited}
-use Rattle.pacing.specs.declared.Next.the-variants.{Unset, At}
-use Rattle.refusals.specs.declared.Refusal.the-variants.{BadState, InvalidAck, StaleFullAck, BadNak}
+use Rattle.rules_numbers.specs.declared.SeqNumber.{SeqNumber}
+use Rattle.rules_pacing.specs.declared.LiveBandwidthMode.the-variants.{Input, Estimated, Max, Unlimited}
+use Rattle.rules_pacing.specs.declared.Next.the-variants.{Unset, At}
+use Rattle.rules_refusals.specs.declared.Refusal.the-variants.{BadState, InvalidAck, StaleFullAck, BadNak}
 use Rattle.buffer.specs.declared.Flushed.the-variants.{Nothing, Held}
 use Rattle.buffer_ack.specs.declared.AckRtt.the-variants as rtts
 use Rattle.buffer_ack.specs.declared.FullAck.the-variants as full
@@ -15,10 +15,10 @@ use Rattle.sender.specs.declared.Sender.{Sender}
 use Rattle.sender.specs.declared.NewPeriod.the-variants as period
 use Rattle.sender.specs.declared.Messaged.the-variants as messaged
 use Rattle.sender.specs.declared.Acknowledged.the-variants as acknowledged
-use Rattle.answers.specs.declared.Reported.the-variants as reported
-use Rattle.answers.specs.declared.Found.the-variants as found
-use Rattle.answers.specs.declared.Told.the-variants as told
-use Rattle.sender_run.specs.declared.Ran.the-variants as ran
+use Rattle.nak.specs.declared.Reported.the-variants as reported
+use Rattle.payload.specs.declared.Found.the-variants as found
+use Rattle.reports.specs.declared.Told.the-variants as told
+use Rattle.run.specs.declared.Ran.the-variants as ran
 use Rattle.host_structs.specs.declared.senders.FlatSender.{FlatSender}
 use Rattle.host_structs.specs.declared.replies.MessageAnswer.{MessageAnswer}
 use Rattle.host_structs.specs.declared.acks.AckAnswer.{AckAnswer}
@@ -29,7 +29,7 @@ use Rattle.host_structs.specs.Replies.{refusal, none, refusedOf, message
 abbrev number : ℕ → SeqNumber
 number n = record { 0 = n }
 
--- what an accepted message and an accepted ACK answer
+-- the answer to an accepted message, and to an accepted ACK
 abbrev saidOf : MessageAnswer → List ℕ
 saidOf a = a .made ∷ a .removed ∷ a .bytes ∷ a .period ∷ []
 
@@ -40,7 +40,7 @@ abbrev known : ReportsAnswer
 known = reportsOf (told.Known (record { «is_flushed» = true; «has_packets_to_send» = false; len = 1; «len_bytes» = 2; duration = 3 }))
 
 pub record Examples : Type 0 where
-  -- the modes' numbers, each way; a mode's unused numbers are 0
+  -- the numbers of the modes, both ways; fields that a mode doesn't use are 0
   pub modes : map (λ (n : ℕ). modeOf n 8 0) (0 ∷ 1 ∷ 2 ∷ []) ≡ Input 8 0 ∷ Estimated 8 0 ∷ Max 8 ∷ []
   pub free : modeOf 3 0 0 ≡ Unlimited
   pub codes : map codeFrom (Input 8 9 ∷ Estimated 8 9 ∷ Max 8 ∷ Unlimited ∷ []) ≡ 0 ∷ 1 ∷ 2 ∷ 3 ∷ []
@@ -53,7 +53,7 @@ pub record Examples : Type 0 where
   pub stale : refusedOf (StaleFullAck 24 25) ≡ refusal 11 24 25 0
   pub malformed : refusedOf (BadNak 26) ≡ refusal 12 26 0 0
   pub broken : payloadOf (found.Refused BadState) ≡ record { refusal = refusal 3 0 0 0; place = 0; len = 0 }
-  -- each number of an answer in its own field, whatever the sender s after the call and the numbers f before it
+  -- each value of an answer is in its own field, whatever the sender s after the call and the numbers f before it
   pub pushed : (f : FlatSender) (s : Sender)
       → saidOf (messageOf f (messaged.Done s (record { made = 1; removed = 2; bytes = 3; period = period.Set 4 }))) ≡ 1 ∷ 2 ∷ 3 ∷ 4 ∷ []
   pub no-period : (f : FlatSender) (s : Sender)
@@ -65,7 +65,7 @@ pub record Examples : Type 0 where
   pub lies : payloadOf (found.Held (record { place = 5; len = 6 })) ≡ record { refusal = none; place = 5; len = 6 }
   pub reports : known .len ∷ known .«len_bytes» ∷ known .duration ∷ [] ≡ 1 ∷ 2 ∷ 3 ∷ []
   pub flags : (known .«is_flushed» ≡ true) × (known .«has_packets_to_send» ≡ false)
-  -- what an ACK brings, or doesn't
+  -- an ACK with and without a full number and a round-trip time
   pub brought : (fullOf true 7 ≡ full.Number 7) × (fullOf false 7 ≡ full.None)
   pub measured : (rttOf true (record { mean = 7; variance = 8 }) ≡ rtts.Measured (record { mean = 7; variance = 8 })) × (rttOf false (record { mean = 7; variance = 8 }) ≡ rtts.None)
 

@@ -1,20 +1,23 @@
--- The calls' answers as numbers. Document 01, "What each place should look like": "Where an answer is an enum, a definition states this paper's
--- number and values for each of its cases."
---   refusedOf r          the refusal's number and its values, `refusals:Table`; none: number 0
---   blank                a sender of zeros, for a refused `new`
---   newOf, messageOf, ackOf, nakOf, runOf, payloadOf, reportsOf   the answers; a refused call gives the numbers f back that it was given
---   fullOf, rttOf        what an ACK may bring
---   ackLeft f s n        "11 alone keeps a new RTT"
--- Assumes nothing.
+-- The answers of the calls as numbers. Document 01, "What each place should look like": "Where an answer is an enum, a
+-- definition states this paper's number and values for each of its cases."
+--   refusal n a b c, none           a refusal from its numbers; no refusal: all 0
+--   refusedOf r                     the refusal's number and its values (rules_refusals, Table)
+--   blank                           a sender of zeros, for a refused `new`
+--   newOf, messageOf, ackOf, nakOf, runOf, payloadOf, reportsOf
+--                                   the answers; a refused call returns the numbers f it was given
+--   periodFrom p                    a new period, 0 for none
+--   fullOf, rttOf                   an ACK's full number and round-trip time, if it has them
+--   ackAnswer, answerBy, actionOf   an ACK's answer from its fields; the answer to an accepted ACK
+--   ackLeft f s n                   "11 alone keeps a new RTT"
 pub mod Laws
 use mathlib.Core.Bool.{Bool, true, false, cond}
 use Prim.Native.Nat.{ℕ}
 use lib.Dec.{eqb}
 use lib.ListN.{getD}
-use Rattle.rtt.specs.declared.Rtt.{Rtt}
-use Rattle.pacing.specs.Books as Pacing
-use Rattle.refusals.specs.Table.{numberOf, valuesOf}
-use Rattle.refusals.specs.declared.Refusal.{Refusal}
+use Rattle.rules_numbers.specs.declared.Rtt.{Rtt}
+use Rattle.rules_pacing.specs.Kept as Pacing
+use Rattle.rules_refusals.specs.Table.{numberOf, valuesOf}
+use Rattle.rules_refusals.specs.declared.Refusal.{Refusal}
 use Rattle.buffer_ack.specs.declared.AckAction.{AckAction}
 use Rattle.buffer_ack.specs.declared.AckRtt.{AckRtt}
 use Rattle.buffer_ack.specs.declared.AckRtt.the-variants as rtts
@@ -29,14 +32,14 @@ use Rattle.sender.specs.declared.Messaged.{Messaged}
 use Rattle.sender.specs.declared.Messaged.the-variants as messaged
 use Rattle.sender.specs.declared.Acknowledged.{Acknowledged}
 use Rattle.sender.specs.declared.Acknowledged.the-variants as acknowledged
-use Rattle.answers.specs.declared.Reported.{Reported}
-use Rattle.answers.specs.declared.Reported.the-variants as reported
-use Rattle.answers.specs.declared.Found.{Found}
-use Rattle.answers.specs.declared.Found.the-variants as found
-use Rattle.answers.specs.declared.Told.{Told}
-use Rattle.answers.specs.declared.Told.the-variants as told
-use Rattle.sender_run.specs.declared.Ran.{Ran}
-use Rattle.sender_run.specs.declared.Ran.the-variants as ran
+use Rattle.nak.specs.declared.Reported.{Reported}
+use Rattle.nak.specs.declared.Reported.the-variants as reported
+use Rattle.payload.specs.declared.Found.{Found}
+use Rattle.payload.specs.declared.Found.the-variants as found
+use Rattle.reports.specs.declared.Told.{Told}
+use Rattle.reports.specs.declared.Told.the-variants as told
+use Rattle.run.specs.declared.Ran.{Ran}
+use Rattle.run.specs.declared.Ran.the-variants as ran
 use Rattle.host_structs.specs.declared.senders.FlatSender.{FlatSender}
 use Rattle.host_structs.specs.declared.refused.Refused.{Refused}
 use Rattle.host_structs.specs.declared.starts.NewAnswer.{NewAnswer}
@@ -54,7 +57,7 @@ refusal number first second third = record { number = number; first = first; sec
 abbrev pub none : Refused
 none = refusal 0 0 0 0
 
--- the values of the table, in its order
+-- the values in the table's order
 unfoldable pub refusedOf : Refusal → Refused
 refusedOf r = refusal (numberOf r) (getD (valuesOf r) 0 0) (getD (valuesOf r) 1 0) (getD (valuesOf r) 2 0)
 

@@ -1,22 +1,23 @@
--- A sender's kept fields as numbers. Document 01, "Book rules": "every other kept field in the range given here", so each field that stands for a
--- case has its numbers, and a case's unused fields are 0; other numbers are read as a field out of its range.
---   flushedOf, heldFrom   the flushed packet: a mark of 1 and its numbers, or all 0
---   nextOf, begunFrom, timeFrom    pacing's next: begun is 1 and its time, or both 0
---   modeOf, codeFrom, rateFrom, overheadFrom   the bandwidth mode: 0 input, 1 estimated, 2 maximum, 3 unlimited, and its rates
---   controlOf, pacingFrom   what pacing keeps
---   bufferOf, booksFrom     what the send buffer keeps
---   senderOf, flatFrom      all of it
--- Assumes nothing.
+-- A sender's kept fields as numbers. Document 01, "Book rules": "every other kept field in the range given here": a
+-- field for a case has certain numbers, and fields that a case doesn't use are 0; other numbers are read as a field out
+-- of its range.
+--   flushedOf, heldFrom, noPacket   the flushed packet: 1 and its numbers, or all 0; a packet out of range
+--   nextOf, begunFrom, timeFrom     pacing's next: 1 and its time, or both 0
+--   modeOf, codeFrom, rateFrom, overheadFrom
+--                                   the bandwidth mode: 0 input, 1 estimated, 2 maximum, 3 unlimited, and its rates
+--   controlOf, pacingFrom           what pacing keeps
+--   bufferOf, booksFrom             what the send buffer keeps
+--   senderOf, flatFrom              all of it
 pub mod Laws
 use mathlib.Core.Bool.{cond, _&&_}
 use Prim.Native.Nat.{ℕ}
 use lib.Dec.{eqb}
-use Rattle.pacing.specs.declared.options.LiveBandwidthMode.{LiveBandwidthMode}
-use Rattle.pacing.specs.declared.options.LiveBandwidthMode.the-variants.{Input, Estimated, Max, Unlimited}
-use Rattle.pacing.specs.declared.Next.{Next}
-use Rattle.pacing.specs.declared.Next.the-variants.{Unset, At}
-use Rattle.pacing.specs.declared.SenderCongestionControl.{SenderCongestionControl}
-use Rattle.pacing.specs.Books.{control}
+use Rattle.rules_pacing.specs.declared.LiveBandwidthMode.{LiveBandwidthMode}
+use Rattle.rules_pacing.specs.declared.LiveBandwidthMode.the-variants.{Input, Estimated, Max, Unlimited}
+use Rattle.rules_pacing.specs.declared.Next.{Next}
+use Rattle.rules_pacing.specs.declared.Next.the-variants.{Unset, At}
+use Rattle.rules_pacing.specs.declared.SenderCongestionControl.{SenderCongestionControl}
+use Rattle.rules_pacing.specs.Kept.{control}
 use Rattle.buffer.specs.declared.Flushed.{Flushed}
 use Rattle.buffer.specs.declared.Flushed.the-variants.{Nothing, Held}
 use Rattle.buffer.specs.declared.SendBuffer.{SendBuffer}
@@ -28,7 +29,7 @@ use Rattle.host_structs.specs.declared.senders.FlatSender.{FlatSender}
 
 -- ## The flushed packet
 
--- 2^32 - 1 is no sequence number
+-- 2^32 - 1 is not a sequence number
 abbrev pub noPacket : Flushed
 noPacket = Held (record { 0 = 0xffff_ffff }) 0 0
 
@@ -43,7 +44,7 @@ heldFrom (Held n slot len) = record { held = 1; number = n .0; slot = slot; len 
 
 -- ## Pacing
 
--- 2^64 - 1 is over the limit of next, and over that of a rate
+-- 2^64 - 1 is over the limit of next, and over a rate's
 unfoldable pub nextOf : ℕ → ℕ → Next
 nextOf begun next = cond (eqb begun 1) (At next) (cond (eqb begun 0 && eqb next 0) Unset (At 0xffff_ffff_ffff_ffff))
 

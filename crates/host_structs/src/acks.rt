@@ -1,5 +1,5 @@
-// What an ACK brings and its answer, as numbers. A refused ACK gives the numbers back that it was given; 11 alone gives the round-trip time that
-// the ACK brought with them.
+// The arguments and the answer of an ACK, as numbers. A refused ACK returns the sender it was given; with 11 alone, the
+// ACK's round-trip time replaces the sender's.
 ghost use mathlib.Core.Path.{_≡_};
 ghost use Rattle.host_structs.specs.Replies.{fullOf, rttOf, actionOf, ackLeft, ackOf};
 use crate::refused::Refused;
@@ -10,11 +10,11 @@ use crate::senders::flat_from;
 use buffer_ack::AckAction;
 use buffer_ack::AckRtt;
 use buffer_ack::FullAck;
-use rtt::Rtt;
+use rules_numbers::Rtt;
 use sender::Acknowledged;
 use sender::Sender;
 
-// Packets acknowledged, how many of them were on the loss list, and the full number that the ACK brought where `full` is true.
+// Packets acknowledged, how many of them were on the loss list, and the ACK's full number if `full` is true.
 #[repr(C)]
 pub struct AckAnswer {
     pub refusal: Refused,
@@ -25,7 +25,7 @@ pub struct AckAnswer {
     pub sender: FlatSender,
 }
 
-// The full number that an ACK brings, where it does.
+// The full number of an ACK, if it has one.
 pub fn full_of(full: bool, full_number: u32) -> FullAck
     ensures { λ r. ⌜ r ≡ fullOf full «full_number» ⌝ }
 {
@@ -36,7 +36,7 @@ pub fn full_of(full: bool, full_number: u32) -> FullAck
     }
 }
 
-// The round-trip time that an ACK brings, where it does.
+// The round-trip time of an ACK, if it has one.
 pub fn rtt_of(measured: bool, rtt: Rtt) -> AckRtt
     ensures { λ r. ⌜ r ≡ rttOf measured rtt ⌝ }
 {
@@ -71,7 +71,7 @@ fn action_of(s: Sender, action: AckAction) -> AckAnswer
     }
 }
 
-// The sender that a refused ACK leaves: 11 alone keeps a new round-trip time.
+// The sender after a refused ACK: 11 alone keeps a new round-trip time.
 fn ack_left(given: FlatSender, s: Sender, number: u32) -> FlatSender
     ensures { λ r. ⌜ r ≡ ackLeft given s number ⌝ }
 {

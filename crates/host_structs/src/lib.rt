@@ -1,8 +1,9 @@
-// What a host in another language keeps and gets: a sender's kept fields, and the calls' answers, as numbers. C takes no enum, so each case has
-// its number, and document 01's "every other kept field in the range given here" says which numbers a field may hold (docs/BOOKS.md).
+// What a host in another language keeps and receives: a sender's kept fields, and the answers of the calls, as numbers.
+// An enum can't be passed to C, so each of its cases has a number; document 01's "every other kept field in the range
+// given here" forbids any other (docs/BOOKS.md).
 //   senders, pacings                     what is kept
 //   refused                              why a call is refused
-//   starts, replies, acks, questions     the answers of `new`; of `message`, `nak` and `run`; of `ack`; of `payload` and `reports`
+//   starts, replies, acks, questions     the answers of new; message, nak, run; ack; payload, reports
 pub mod acks;
 pub mod pacings;
 pub mod questions;

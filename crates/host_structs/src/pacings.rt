@@ -1,14 +1,14 @@
-// What pacing keeps as numbers, and what they stand for. Numbers that stand for nothing are read as a time or a rate over its limit, so that every
-// call refuses them in its order: BadState, or BadSetting of a new sender's mode.
+// Pacing as numbers, and the pacing they encode. Numbers that encode nothing are read as a time or a rate over its
+// limit, so every call refuses them in its order of tests: BadState, or BadSetting for a new sender's mode.
 ghost use mathlib.Core.Path.{_≡_};
 ghost use Rattle.host_structs.specs.Senders.{nextOf, begunFrom, timeFrom, modeOf, codeFrom, rateFrom, overheadFrom, controlOf, pacingFrom};
-use pacing::Next;
-use pacing::SenderCongestionControl;
-use pacing::options::LiveBandwidthMode;
-use rate::RateEstimation;
+use rules_pacing::LiveBandwidthMode;
+use rules_pacing::Next;
+use rules_pacing::RateEstimation;
+use rules_pacing::SenderCongestionControl;
 
-// What pacing keeps. Modes: 0 input, 1 estimated, 2 maximum, 3 unlimited; a number that a mode has no use for is 0. `begun` is 1 from the first
-// input on; before it `next` is 0.
+// What pacing keeps. Modes: 0 input, 1 estimated, 2 maximum, 3 unlimited; fields that a mode doesn't use are 0. `begun`
+// is 1 from the first input on; before it, `next` is 0.
 #[repr(C)]
 pub struct FlatPacing {
     pub mode: u32,
@@ -54,7 +54,7 @@ fn time_from(next: Next) -> u64
     }
 }
 
-// The mode of a number, with the rate and the overhead that it asks for.
+// The mode with this number, rate and overhead.
 pub fn mode_of(mode: u32, rate: u64, overhead: u64) -> LiveBandwidthMode
     ensures { λ r. ⌜ r ≡ modeOf mode rate overhead ⌝ }
 {
@@ -122,7 +122,7 @@ fn overhead_from(mode: LiveBandwidthMode) -> u64
 }
 
 impl FlatPacing {
-    // What these numbers stand for.
+    // The pacing that these numbers encode.
     pub fn control(self) -> SenderCongestionControl
         ensures { λ r. ⌜ r ≡ controlOf self ⌝ }
     {
@@ -137,7 +137,7 @@ impl FlatPacing {
     }
 }
 
-// What pacing keeps, as numbers.
+// Pacing as numbers.
 pub fn pacing_from(c: SenderCongestionControl) -> FlatPacing
     ensures { λ r. ⌜ r ≡ pacingFrom c ⌝ }
 {

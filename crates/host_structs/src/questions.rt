@@ -1,13 +1,13 @@
-// The answers of `payload` and `reports` as numbers: these calls change nothing.
+// The answers of `payload` and `reports` as numbers. These calls change nothing.
 ghost use mathlib.Core.Path.{_≡_};
 ghost use Rattle.host_structs.specs.Replies.{payloadOf, reportsOf};
 use crate::refused::Refused;
 use crate::refused::none;
 use crate::refused::refusal_of;
-use answers::Found;
-use answers::Told;
+use payload::Found;
+use reports::Told;
 
-// Where a payload begins in the store, and its length.
+// Where a payload starts in the store, and its length.
 #[repr(C)]
 pub struct PayloadAnswer {
     pub refusal: Refused,

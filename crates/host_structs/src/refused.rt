@@ -1,10 +1,11 @@
-// Why a call is refused, as numbers: document 01, "Refusal numbers", with the values that its table names.
+// Why a call is refused, as numbers: document 01, "Refusal numbers".
 ghost use mathlib.Core.Path.{_≡_};
 ghost use Rattle.host_structs.specs.Replies.{refusal, none, refusedOf};
-use refusals::Refusal;
+use rules_refusals::Refusal;
 
-// Why a call is refused: the refusal's number, 0 where it is not, and the values that document 01's table names with it, in its order: of 10 the
-// ACK's number, the front's and next unsent, of 11 the full number and the expected one, of 12 the word's index. All else is 0.
+// The refusal's number, 0 if the call is accepted, and the values that document 01's table names, in its order: for 10
+// the ACK's number, the front and next unsent, for 11 the full number and the expected one, for 12 the word's index.
+// All other fields are 0.
 #[repr(C)]
 pub struct Refused {
     pub number: u32,
@@ -24,7 +25,7 @@ fn values(number: u32, first: u64, second: u64, third: u64) -> Refused
     }
 }
 
-// Of a call that is accepted.
+// The call is accepted.
 pub(crate) fn none() -> Refused
     ensures { λ r. ⌜ r ≡ none ⌝ }
 {

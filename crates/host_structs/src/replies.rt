@@ -1,5 +1,5 @@
-// The answers of `message`, `nak` and `run` as numbers: what was refused, what the call came to, and the sender to keep from then on. A refused
-// call gives the numbers back that it was given.
+// The answers of `message`, `nak` and `run` as numbers: the refusal, the results, and the sender to keep from then on.
+// A refused call returns the sender it was given.
 ghost use mathlib.Core.Path.{_≡_};
 ghost use Rattle.host_structs.specs.Replies.{periodFrom, messageOf, nakOf, runOf};
 use crate::refused::Refused;
@@ -7,12 +7,13 @@ use crate::refused::none;
 use crate::refused::refusal_of;
 use crate::senders::FlatSender;
 use crate::senders::flat_from;
-use answers::Reported;
+use nak::Reported;
+use run::Ran;
 use sender::Messaged;
 use sender::NewPeriod;
-use sender_run::Ran;
 
-// Packets made, packets removed, wire bytes removed, and the new period in microseconds: 0 for none, since a period is at least 1.
+// Packets made, packets removed, wire bytes removed, and the new period in microseconds; 0 means none, since a period
+// is at least 1.
 #[repr(C)]
 pub struct MessageAnswer {
     pub refusal: Refused,

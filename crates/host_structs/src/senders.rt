@@ -1,5 +1,5 @@
-// A sender's kept fields as numbers, and the sender that they stand for. Numbers that stand for nothing are read as a field that the book rules
-// refuse, so that every call refuses them in its order: BadState.
+// A sender's kept fields as numbers, and the sender they encode. Numbers that encode nothing are read as a field that
+// breaks the book rules, so every call refuses them in its order of tests: BadState.
 ghost use mathlib.Core.Path.{_≡_};
 ghost use Rattle.host_structs.specs.Senders.{flushedOf, heldFrom, bufferOf, booksFrom, senderOf, flatFrom};
 use crate::pacings::FlatPacing;
@@ -7,13 +7,13 @@ use crate::pacings::pacing_from;
 use buffer::Flushed;
 use buffer::SendBuffer;
 use buffer::Settings;
-use numbers::MsgNumber;
-use numbers::SeqNumber;
 use ring::Ring;
-use rtt::Rtt;
+use rules_numbers::MsgNumber;
+use rules_numbers::Rtt;
+use rules_numbers::SeqNumber;
 use sender::Sender;
 
-// The flushed packet whose payload is held: `held` is 1, or 0 and all else with it.
+// The flushed packet whose payload is held: `held` is 1; if none is, every field is 0.
 #[repr(C)]
 pub struct HeldPacket {
     pub held: u32,
@@ -22,7 +22,7 @@ pub struct HeldPacket {
     pub len: usize,
 }
 
-// What the send buffer keeps beside the lent areas.
+// What the send buffer keeps besides the lent areas.
 #[repr(C)]
 pub struct FlatBooks {
     pub ring: Ring,
@@ -36,7 +36,7 @@ pub struct FlatBooks {
     pub message: u32,
 }
 
-// All that a sender keeps beside the lent areas.
+// Everything that a sender keeps besides the lent areas.
 #[repr(C)]
 pub struct FlatSender {
     pub settings: Settings,
@@ -120,7 +120,7 @@ fn books_from(b: SendBuffer) -> FlatBooks
 }
 
 impl FlatSender {
-    // The sender that these numbers stand for.
+    // The sender that these numbers encode.
     pub fn sender(self) -> Sender
         ensures { λ r. ⌜ r ≡ senderOf self ⌝ }
     {
@@ -135,7 +135,7 @@ impl FlatSender {
     }
 }
 
-// All that a sender keeps, as numbers.
+// A sender as numbers.
 pub fn flat_from(s: Sender) -> FlatSender
     ensures { λ r. ⌜ r ≡ flatFrom s ⌝ }
 {

@@ -10,19 +10,19 @@ use crate::senders::FlatSender;
 use crate::senders::HeldPacket;
 use crate::senders::flat_from;
 use buffer::Settings;
-use rate::RateEstimation;
 use ring::Ring;
-use rtt::Rtt;
+use rules_numbers::Rtt;
+use rules_pacing::RateEstimation;
 use sender::Made;
 
-// The new sender; zeros where it is refused.
+// The new sender; all zeros if the call is refused.
 #[repr(C)]
 pub struct NewAnswer {
     pub refusal: Refused,
     pub sender: FlatSender,
 }
 
-// Of a sender that was refused.
+// The zeros of a refused call.
 fn blank() -> FlatSender
     ensures { λ r. ⌜ r ≡ blank ⌝ }
 {

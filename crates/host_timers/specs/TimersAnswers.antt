@@ -1,29 +1,29 @@
--- The timers' answers as numbers. Document 01, "What each place should look like": "Where an answer is an enum, a definition states this
--- paper's number and values for each of its cases."
---   told e                   how many periods a check tells; 0 for none, which no check tells otherwise (Laws, ticked-some)
---   nanoseconds a            of nanoseconds read: 0 and how many, or the refusal's number
+-- The answers of the timers' calls as numbers. Document 01, "What each place should look like": "Where an answer is an
+-- enum, a definition states this paper's number and values for each of its cases."
+--   told e                   how many periods a check found; 0 means none (Laws, ticked-some)
+--   nanoseconds a            0 and the nanoseconds read, or the refusal's number
 --   blank, blanks            six timers of zeros and an EXP count of 0, for a refused `new`
---   timersSet ts a           of timers ts made or set: 0 and the timers, or the refusal's number and ts as they were
---   timersChecked ts a       of timers ts of which one was checked: with the periods
---   nextMessage known time   the next message's time, where the host knows it
--- Assumes nothing.
+--   timersAnswer r n ts      an answer from its three fields
+--   timersSet ts a           after ts are made or set: 0 and the new timers, or the refusal's number and ts unchanged
+--   timersChecked ts a       after a check of one of ts: the same, with the periods
+--   nextMessage known time   the next message's time, if the host knows it
 pub mod Laws
 use mathlib.Core.Bool.{Bool, true, false}
 use Prim.Native.Nat.{ℕ}
-use Rattle.refusals.specs.Table.{numberOf}
-use Rattle.timer.specs.declared.Timer.{Timer}
-use Rattle.timer.specs.declared.Elapsed.{Elapsed}
-use Rattle.timer.specs.declared.Elapsed.the-variants.{Nothing, Periods}
-use Rattle.timer.specs.declared.Nanoseconds.{Nanoseconds}
-use Rattle.timer.specs.declared.Nanoseconds.the-variants as read
-use Rattle.timers.specs.declared.Timers.{Timers}
-use Rattle.timers.specs.declared.TimersSet.{TimersSet}
-use Rattle.timers.specs.declared.TimersSet.the-variants as set
-use Rattle.timers.specs.Timers.{timers}
-use Rattle.timer_checks.specs.declared.TimersChecked.{TimersChecked}
-use Rattle.timer_checks.specs.declared.TimersChecked.the-variants as checked
-use Rattle.timer_checks.specs.declared.wake.NextMessage.{NextMessage}
-use Rattle.timer_checks.specs.declared.wake.NextMessage.the-variants.{Unknown, At}
+use Rattle.rules_refusals.specs.Table.{numberOf}
+use Rattle.rules_timers.specs.declared.Timer.{Timer}
+use Rattle.rules_timers.specs.declared.Elapsed.{Elapsed}
+use Rattle.rules_timers.specs.declared.Elapsed.the-variants.{Nothing, Periods}
+use Rattle.rules_timers.specs.declared.Nanoseconds.{Nanoseconds}
+use Rattle.rules_timers.specs.declared.Nanoseconds.the-variants as read
+use Rattle.rules_timers.specs.declared.Timers.{Timers}
+use Rattle.rules_timers.specs.declared.TimersSet.{TimersSet}
+use Rattle.rules_timers.specs.declared.TimersSet.the-variants as set
+use Rattle.rules_timers.specs.Timers.{timers}
+use Rattle.rules_timers.specs.declared.TimersChecked.{TimersChecked}
+use Rattle.rules_timers.specs.declared.TimersChecked.the-variants as checked
+use Rattle.rules_timers.specs.declared.NextMessage.{NextMessage}
+use Rattle.rules_timers.specs.declared.NextMessage.the-variants.{Unknown, At}
 use Rattle.host_timers.specs.declared.TimersAnswer.{TimersAnswer}
 use Rattle.host_timers.specs.declared.NanosecondsAnswer.{NanosecondsAnswer}
 

@@ -1,16 +1,16 @@
-// The timers' answers as numbers, for a host in another language: document 01, "Timers". C takes no enum, so each case has its number. The
-// timers of a refused call are those that it was given, or zeros for a refused `new`.
+// The answers of the timers' calls as numbers, for a host in another language: document 01, "Timers". A refused call
+// returns the timers it was given; a refused `new` returns zeros.
 ghost use mathlib.Core.Path.{_≡_};
 ghost use Rattle.host_timers.specs.TimersAnswers.{told, nanoseconds, blanks, timersSet, timersChecked, nextMessage};
-use timer_checks::TimersChecked;
-use timer_checks::wake::NextMessage;
-use timer::Elapsed;
-use timer::Nanoseconds;
-use timer::Timer;
-use timers::Timers;
-use timers::TimersSet;
+use rules_timers::Elapsed;
+use rules_timers::Nanoseconds;
+use rules_timers::NextMessage;
+use rules_timers::Timer;
+use rules_timers::Timers;
+use rules_timers::TimersChecked;
+use rules_timers::TimersSet;
 
-// The timers made, set or checked: the timers after the call, and how many periods a check found elapsed, 0 for none.
+// The answer of a call that makes, sets or checks: the timers after it, and the periods elapsed, 0 for none.
 #[repr(C)]
 pub struct TimersAnswer {
     pub refusal: u32,
@@ -18,14 +18,14 @@ pub struct TimersAnswer {
     pub timers: Timers,
 }
 
-// Nanoseconds read off the timers.
+// Nanoseconds read from the timers.
 #[repr(C)]
 pub struct NanosecondsAnswer {
     pub refusal: u32,
     pub nanoseconds: u64,
 }
 
-// A check that finds something finds at least one period, so 0 is free to say that it found none.
+// The periods that a check found. It finds at least one, if any, so 0 can mean none.
 pub fn told(elapsed: Elapsed) -> u32
     ensures { λ r. ⌜ r ≡ told elapsed ⌝ }
 {
@@ -44,7 +44,7 @@ pub fn nanoseconds(a: Nanoseconds) -> NanosecondsAnswer
             nanoseconds,
         },
         Nanoseconds::Refused(refusal) => NanosecondsAnswer {
-            refusal: refusal.number(),
+            refusal: refusals::number(refusal),
             nanoseconds: 0,
         },
     }
@@ -60,7 +60,7 @@ pub fn timers_set(before: Timers, a: TimersSet) -> TimersAnswer
             timers,
         },
         TimersSet::Refused(refusal) => TimersAnswer {
-            refusal: refusal.number(),
+            refusal: refusals::number(refusal),
             periods: 0,
             timers: before,
         },
@@ -77,14 +77,14 @@ pub fn timers_checked(before: Timers, a: TimersChecked) -> TimersAnswer
             timers,
         },
         TimersChecked::Refused(refusal) => TimersAnswer {
-            refusal: refusal.number(),
+            refusal: refusals::number(refusal),
             periods: 0,
             timers: before,
         },
     }
 }
 
-// The next message's time, where the host knows it.
+// The next message's time, if the host knows it.
 pub fn next_message(known: bool, time: u64) -> NextMessage
     ensures { λ r. ⌜ r ≡ nextMessage known time ⌝ }
 {

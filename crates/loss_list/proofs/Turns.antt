@@ -1,6 +1,5 @@
--- What `move_up` and `write_run` do to an area in one turn. A turn of the first moves the element before those that are moved already
--- (`moved-step`); one of the second writes the next number before those that are written (`written-step`).
--- Assumes nothing.
+-- What `move_up` and `write_run` do to an area in one turn. A turn of the first moves the element before those already
+-- moved (`moved-step`); a turn of the second writes the next number before those already written (`written-step`).
 use mathlib.Core.Path.{_≡_, sym, _∙_}
 use mathlib.Core.List.{List, _∷_, _++_}
 use Prim.Native.Nat.{ℕ, zero, suc, _+_, _-_, _≤_, _<_}
@@ -9,7 +8,7 @@ use native.Mathlib.Numerals.{add-one, sub-one}
 use native.Mathlib.Omega.{arith}
 use lib.ListN.{length, take, drop, set, getD, take-append-drop, List·getD-append}
 use lib.Seq.{slice, slice-empty, slice-cons, take-suc, append-snoc, set-at, length-take-le, getD-take}
-use Rattle.numbers.specs.Modular.{seqs, plus}
+use Rattle.rules_numbers.specs.Modular.{seqs, plus}
 use Rattle.loss_list.specs.LossList.{falling}
 use Rattle.loss_list.specs.LossList.Laws.{moved, written}
 

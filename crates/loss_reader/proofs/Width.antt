@@ -1,5 +1,5 @@
--- The call of `loss_words::Step::width`, as the walks of `LossReader::next` and `count` make it: what it asks, and what it says.
--- Assumes nothing.
+-- The call of `loss_words::Step::width`, as the walks of `LossReader::next` and `count` use it: what it requires and
+-- ensures.
 use mathlib.Core.Path.{_≡_}
 use Prim.Native.Nat.{ℕ}
 use mathlib.Core.List.{[], _∷_}

@@ -1,10 +1,12 @@
--- What a reader of loss words does. Document 01: "The decompressed loss iterator becomes a reader that holds the lent words and its place."
---   start ws      at the first word
---   here r        what stands at its place
---   moved r       past what stands there; where no item stands, as it was
---   reads n r     what n readings give, up to the end of the words or the first bad item
---   counts n r    how many items stand before a place where none stands, of n readings
--- Assumes nothing.
+-- What a reader of loss words does. Document 01: "The decompressed loss iterator becomes a reader that holds the lent
+-- words and its place."
+--   start ws       the reader at the first word
+--   here r         what is at its place
+--   moved r        the reader past that; unchanged if it isn't an item
+--   given s at w   the words read, from the step at `at` and what follows
+--   reads n r      what n readings give, up to the end of the words or the first bad item
+--   counts n r     how many items come, in n readings, before a place that has none
+--   tally w more   one more than `more` if the step is some words wide, else 0
 pub mod Counting
 pub mod Laws
 use mathlib.Core.List.{List, []}
@@ -25,7 +27,7 @@ here r = stepAt (now (r .words)) (r .at)
 abbrev pub moved : LossReader → LossReader
 moved r = record { words = r .words; at = r .at + widthOf (here r) }
 
--- the answer to the step s at index `at`, where `more` is what the words after it give
+-- what is read from the step s at index `at`, if `more` is what the words after it give
 unfoldable pub given : Step → ℕ → Words → Words
 given (One a) at more = before (itemOf (One a)) more
 given (Range a b) at more = before (itemOf (Range a b)) more
@@ -36,7 +38,7 @@ unfoldable pub reads : ℕ → LossReader → Words
 reads zero r = items []
 reads (suc n) r = given (here r) (r .at) (reads n (moved r))
 
--- one more than `more`, where the step at hand is some words wide
+-- one more than `more` if the step is some words wide
 abbrev pub tally : ℕ → ℕ → ℕ
 tally zero more = 0
 tally (suc w) more = suc more

@@ -1,25 +1,25 @@
-// A reader of loss words: document 01, "The decompressed loss iterator becomes a reader that holds the lent words and its place". What
-// stands at a place is `loss_words::step_at`'s work.
+// A reader of loss words: document 01, "The decompressed loss iterator becomes a reader that holds the lent words and
+// its place". `loss_words::step_at` reads the item at a place.
 ghost use mathlib.Core.Path.{_≡_};
 ghost use lib.ListN.{length};
 ghost use Rattle.loss_reader.specs.Reading.{start, here, moved, counts};
 use loss_words::Step;
 
-// The words of a report, and the index of the first one that is not read yet.
+// The words of a report, and the index of the first word not read yet.
 pub struct LossReader<'a> {
     pub words: &'a [u32],
     pub at: usize,
 }
 
 impl<'a> LossReader<'a> {
-    // At the first word.
+    // A reader at the first word.
     pub fn new(words: &'a [u32]) -> LossReader<'a>
         ensures { λ r. ⌜ r ≡ start (words .entry) ⌝ }
     {
         LossReader { words, at: 0 }
     }
 
-    // What stands at its place. The reader moves past it, and stays where no item stands.
+    // Reads what is at its place. The reader moves past an item; if there is none, it stays.
     pub fn next<'s>(&'s mut self) -> Step
         ensures { λ s. ⌜ (s ≡ here (now (self .entry))) × (now (self .exit) ≡ moved (now (self .entry))) ⌝ }
     {
@@ -30,7 +30,7 @@ impl<'a> LossReader<'a> {
     }
 }
 
-// How many items stand before the first bad one, or in the whole report where none is bad.
+// How many items come before the first bad one, or in the whole report if none is bad.
 pub fn count(words: &[u32]) -> usize
     ensures { λ r. ⌜ r ≡ counts (length (now (words .entry))) (start (words .entry)) ⌝ }
 {

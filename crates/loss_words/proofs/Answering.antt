@@ -1,6 +1,5 @@
--- The invariant of `write_runs`: the runs written so far, joined with those of the items from index `at` on, are the answer. A turn reads an
--- item, since the report is well-formed, and adds its runs.
--- Assumes nothing.
+-- The invariant of `write_runs`: the runs written so far, joined with those of the items from index `at` on, are the
+-- answer. Since the report is well-formed, a turn reads an item and adds its runs.
 use mathlib.Core.Path.{_≡_, refl, sym, ap, _∙_}
 use mathlib.Core.List.{List, [], _∷_}
 use Prim.Native.Nat.{ℕ, _+_, _*_, _≤_, _<_, zero-le}
@@ -30,7 +29,7 @@ short ws fine = go (decLt 512 (length ws))
         absurd (let z : _≡_ {A = ℕ} 0 1 = cc in omega arith)
     go (no h) = words-few ws (omega arith)
 
--- where f is the front and n packets are sent: len runs stand in l, and the words from index `at` on are to come
+-- with front f and n packets sent: len runs are in l, and the words from index `at` on are to come
 pub record Answering (ws : List ℕ) (f n : ℕ) (e : List ℕ) (answer : List LossRun) (at len : ℕ) (l : List ℕ) : Type 0 where
   pub within : at ≤ length ws
   pub fine : parse at (drop at ws) ≡ items (itemsOf (parse at (drop at ws)))

@@ -1,6 +1,5 @@
--- The invariant of `write_item`: the runs written so far, and those of the numbers that are left, are the item's runs. A turn writes the first
--- run of what is left, as `stretchAt` does.
--- Assumes nothing.
+-- The invariant of `write_item`: the runs written so far, and those of the numbers left, are the item's runs. A turn
+-- writes the first run of the numbers left, as `stretchAt` does.
 use mathlib.Core.Path.{_≡_, refl, sym, ap, _∙_}
 use mathlib.Core.List.{List, [], _∷_}
 use Prim.Native.Nat.{ℕ, zero, suc, _+_, _-_, _≤_, _<_, min}
@@ -8,8 +7,8 @@ use native.Mathlib.Nat.{not-suc-le-zero}
 use native.Mathlib.Numerals.{add-one, sub-one}
 use native.Mathlib.Omega.{arith}
 use lib.ListN.{length}
-use Rattle.numbers.specs.Modular.{seqs, plus, dist}
-use Rattle.numbers.specs.Modular.Laws.{plus-is}
+use Rattle.rules_numbers.specs.Modular.{seqs, plus, dist}
+use Rattle.rules_numbers.specs.Modular.Laws.{plus-is}
 use Rattle.rules.specs.Losses.{LossRun, endOf}
 use Rattle.loss_words.specs.Runs.{runAt, stretchAt, itemRunsAt, add, addAll}
 use Rattle.loss_words.specs.Runs.Laws.{Reaches}
@@ -35,7 +34,8 @@ no-turn : (f n i m k : ℕ) → i ≡ 0 → stretchAt f n i m k ≡ []
 unfolding stretchAt
 no-turn f n i m k e = rw e
 
--- of a list of len runs, l₀, and the runs qs to come, r runs stand in l; from m on k numbers are left, in at most `left` turns
+-- the list l₀ with len runs is to get the runs qs; l now has r runs, and the k numbers from m on are left, for at most
+-- `left` turns
 pub record Writing (f n : ℕ) (l₀ : List ℕ) (len : ℕ) (qs : List LossRun) (l : List ℕ) (m k r left : ℕ) : Type 0 where
   pub few : r + left ≤ len + 3
   pub same : length l ≡ length l₀

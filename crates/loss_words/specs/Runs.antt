@@ -1,13 +1,14 @@
--- The answer to a loss report, as the words of a lent list. Document 01, "Loss words": "A number is Added if buffered and sent; else Ignored if
--- its distance from next unsent is below 2^30; else Dropped. The answer lists, in order, maximal runs of one kind and consecutive numbers,
--- also across items; each has an exclusive end." Here f is the front, and n packets are sent from there on.
---   codeOf k            the number of a kind in the list: 1 Added, 2 Ignored, 3 Dropped
---   wordsFor rs         three words to a run: its kind, its first number, its exclusive end
---   kindAt f n m        the kind of the number m;  reachAt f n m   how many numbers from m on are of it, one after the other
---   stretchAt f n i m k the runs of k numbers from m on, at most i of them
---   runsAt f n is       the runs of all items, three for each at most
---   add rs q, addAll    a run more at the end: where the last run goes on into it the two are one
--- Assumes nothing.
+-- The answer to a loss report, as the words of a lent list. Document 01, "Loss words": "A number is Added if buffered
+-- and sent; else Ignored if its distance from next unsent is below 2^30; else Dropped. The answer lists, in order,
+-- maximal runs of one kind and consecutive numbers, also across items; each has an exclusive end." Here f is the front,
+-- and n packets are sent from there on.
+--   codeOf k                    the number of a kind in the list: 1 Added, 2 Ignored, 3 Dropped
+--   wordsFor rs                 three words per run: its kind, its first number, its exclusive end
+--   kindAt, reachAt f n m       the kind of the number m; how many consecutive numbers from m on are of that kind
+--                               (reachBy)
+--   runAt, stretchAt f n ..     the first run, and the first i runs, of the k numbers from m on
+--   itemRunsAt, runsAt f n is   the runs of an item, at most three; the runs of all items
+--   add rs q, addAll            one more run at the end, joined to the last if that continues into it (merged)
 pub mod Entering
 pub mod Laws
 pub mod Lent
@@ -15,7 +16,7 @@ use mathlib.Core.Bool.{cond}
 use mathlib.Core.List.{List, [], _∷_, _++_}
 use Prim.Native.Nat.{ℕ, zero, suc, _+_, _-_, _^_, min}
 use lib.Dec.{ltb}
-use Rattle.numbers.specs.Modular.{seqs, plus, dist}
+use Rattle.rules_numbers.specs.Modular.{seqs, plus, dist}
 use Rattle.rules.specs.Losses.{Item, LossKind, Added, Ignored, Dropped, LossRun, kindBy, endOf, meets}
 
 abbrev pub codeOf : LossKind → ℕ

@@ -1,12 +1,11 @@
--- The words of a loss report, read at an index. Document 01, "Loss words" (the draft, Appendix A): "A word with top bit 0 is one number; top
--- bit 1 opens a range whose next word, top bit 0, is its inclusive last. Distance first to last must be below 2^30." Row 12 of "Refusal
--- numbers": "loss words malformed or over 512 words; returns the word's index".
---   step ws         what stands first in ws: the step of the rules' `parse`
---   stepAt ws at    what stands at index `at`
---   widthOf s       how many words it takes; 0 where there is no item
---   itemOf s        its item; a single number is its own first and last
---   judged w        the answer to a report that is read as w: how many items, or the index of the first bad one's first word
--- Assumes nothing.
+-- The words of a loss report, read at an index. Document 01, "Loss words" (the draft, Appendix A): "A word with top bit
+-- 0 is one number; top bit 1 opens a range whose next word, top bit 0, is its inclusive last. Distance first to last
+-- must be below 2^30." Row 12 of "Refusal numbers": "loss words malformed or over 512 words; returns the word's index".
+--   step ws        what comes first in ws: one step of `parse` of the rules
+--   stepAt ws at   what is at index `at`
+--   widthOf s      how many words it takes; 0 if it is not an item
+--   itemOf s       its item; a single number is its own first and last
+--   judged w       the answer to a report: how many items, or the index of the first word of the first bad one
 pub mod Laws
 use mathlib.Core.Bool.{cond}
 use mathlib.Core.List.{List, [], _∷_}

@@ -1,12 +1,12 @@
-// The words of a loss report: document 01, "Loss words"; what the Rust's `LossIterator` and its decompressed loss list do.
+// The words of a loss report: document 01, "Loss words"; the Rust's `LossIterator` and its decompressed loss list.
 ghost use mathlib.Core.Path.{_≡_};
 ghost use Rattle.rules.specs.Losses.{wordsOf};
 ghost use Rattle.loss_words.specs.Words.{stepAt, widthOf, itemOf, judged};
-use numbers::SeqNumber;
+use rules_numbers::SeqNumber;
 
 pub mod runs;
 
-// What stands at a place of the report: one number, a range with its inclusive last, a malformed item, or nothing any more.
+// What is at a place of the report: one number, a range with its inclusive last, a malformed item, or the end.
 pub enum Step {
     One(u32),
     Range(u32, u32),
@@ -20,7 +20,7 @@ pub enum Report {
     BadNak(u32),
 }
 
-// What stands at index `at`.
+// What is at index `at`.
 pub fn step_at(words: &[u32], at: usize) -> Step
     ensures { λ r. ⌜ r ≡ stepAt (now (words .entry)) at ⌝ }
 {
@@ -40,7 +40,7 @@ pub fn step_at(words: &[u32], at: usize) -> Step
         return Step::Bad;
     }
     let first = w - 0x8000_0000;
-    if 0x4000_0000 <= SeqNumber(first).distance(SeqNumber(last)) {
+    if 0x4000_0000 <= numbers::distance(SeqNumber(first), SeqNumber(last)) {
         return Step::Bad;
     }
     Step::Range(first, last)
@@ -71,7 +71,7 @@ impl Step {
         }
     }
 
-    // How many words it takes; none where it is no item.
+    // How many words it takes; 0 if it is not an item.
     pub fn width(self) -> usize
         ensures { λ r. ⌜ r ≡ widthOf self ⌝ }
     {

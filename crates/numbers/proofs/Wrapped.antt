@@ -1,11 +1,11 @@
--- What the code computes, for both kinds of number: it wraps at a word of w first, which m divides, and takes the remainder by m then.
+-- What the code computes, for both kinds of number: it wraps at a word of w, a multiple of m, and then takes the
+-- remainder by m.
 --   plus-wrapped, dist-wrapped   the sum and the difference so computed are `plus` and `dist`
--- Assumes nothing.
 use mathlib.Core.Path.{_≡_, sym, ap, _∙_}
 use Prim.Native.Nat.{ℕ, _+_, _%_, _<_}
 use native.Mathlib.Nat.{mod-lt, add-comm, add-mod-mod, mod-mod-of-dvd, dvd-of-mod-eq-zero}
-use Rattle.numbers.specs.Modular.{plus, dist}
-use Rattle.numbers.specs.Modular.Laws.{plus-is, dist-mod, dist-unique}
+use Rattle.rules_numbers.specs.Modular.{plus, dist}
+use Rattle.rules_numbers.specs.Modular.Laws.{plus-is, dist-mod, dist-unique}
 
 pub plus-wrapped : (m w a k r : ℕ) → w % m ≡ 0 → r ≡ (a + k) % w → r % m ≡ plus m a k
 plus-wrapped m w a k r d e =

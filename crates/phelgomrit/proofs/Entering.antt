@@ -1,5 +1,4 @@
--- An entry is its three calls, one put into the other: the numbers read, the call, the answer written.
--- Assumes nothing.
+-- An entry composes three calls: the numbers are read, the call made, the answer written.
 use mathlib.Core.Path.{_≡_, ap, _∙_}
 use mathlib.Core.Bool.{Bool}
 use mathlib.Core.List.{List}
@@ -9,13 +8,13 @@ use Rattle.buffer_ack.specs.declared.AckRtt.{AckRtt}
 use Rattle.sender.specs.declared.Sender.{Sender}
 use Rattle.sender.specs.declared.Messaged as sender
 use Rattle.sender.specs.declared.Acknowledged as ack
-use Rattle.sender.specs.Books.{books}
+use Rattle.sender.specs.SenderAndAreas.{books}
 use Rattle.sender.specs.Calls as Calls
 use Rattle.sender.specs.Acks as Acks
-use Rattle.answers.specs.declared.Reported as answers
-use Rattle.answers.specs.Naks as Naks
-use Rattle.sender_run.specs.declared.Ran as run
-use Rattle.sender_run.specs.Runs as Runs
+use Rattle.nak.specs.declared.Reported as answers
+use Rattle.nak.specs.Naks as Naks
+use Rattle.run.specs.declared.Ran as run
+use Rattle.run.specs.Runs as Runs
 use Rattle.host_structs.specs.declared.senders.FlatSender.{FlatSender}
 use Rattle.host_structs.specs.declared.replies.MessageAnswer.{MessageAnswer}
 use Rattle.host_structs.specs.declared.acks.AckAnswer.{AckAnswer}

@@ -1,9 +1,10 @@
--- The host entries: the answer as numbers, and every lent element at the end, of the call on the sender that the given numbers stand for.
---   Messaged, messaged, message       a message's
---   Reported, reported, nak           a loss report's
---   Ran, ran, run                     a run's
---   ack, payload, reports             these change nothing lent
--- Assumes nothing.
+-- The host entries: the answer as numbers, and every lent element afterwards, of the call on the sender that the given
+-- numbers encode.
+--   booksOf f ring lost              the encoded sender with its lent areas
+--   Messaged, messaged, messageBy, message   a message
+--   Reported, reported, nakBy, nak   a loss report
+--   Ran, ran, runBy, run             a run
+--   ack, payload, reports            these change nothing lent
 pub mod Coincide
 pub mod Laws
 use mathlib.Core.Bool.{Bool}
@@ -11,15 +12,15 @@ use mathlib.Core.List.{List}
 use Prim.Native.Nat.{ℕ}
 use Rattle.buffer_ack.specs.declared.FullAck.{FullAck}
 use Rattle.buffer_ack.specs.declared.AckRtt.{AckRtt}
-use Rattle.sender.specs.Books.{Books, books}
+use Rattle.sender.specs.SenderAndAreas.{Books, books}
 use Rattle.sender.specs.Calls as Calls
 use Rattle.sender.specs.Acks as Acks
-use Rattle.answers.specs.declared.Found.{Found}
-use Rattle.answers.specs.declared.Told.{Told}
-use Rattle.answers.specs.Naks as Naks
-use Rattle.answers.specs.Payload as Payload
-use Rattle.answers.specs.Reports as Reports
-use Rattle.sender_run.specs.Runs as Runs
+use Rattle.payload.specs.declared.Found.{Found}
+use Rattle.reports.specs.declared.Told.{Told}
+use Rattle.nak.specs.Naks as Naks
+use Rattle.payload.specs.Payload as Payload
+use Rattle.reports.specs.Reports as Reports
+use Rattle.run.specs.Runs as Runs
 use Rattle.host_structs.specs.declared.senders.FlatSender.{FlatSender}
 use Rattle.host_structs.specs.declared.replies.MessageAnswer.{MessageAnswer}
 use Rattle.host_structs.specs.declared.acks.AckAnswer.{AckAnswer}

@@ -1,12 +1,12 @@
-// The header of a packet: document 01, "Header". It is made of numbers that can't be out of range, so nothing is refused.
+// The header of a packet: document 01, "Header". No argument can be out of range, so nothing is refused.
 ghost use mathlib.Core.Path.{_≡_};
-ghost use Rattle.encapsulate.specs.Header.{header};
+ghost use Rattle.rules_packets.specs.Header.{header};
 ghost use Rattle.phelgomrit.specs.Packet.{placeOf};
-use encapsulate::Place;
-use numbers::MsgNumber;
-use numbers::SeqNumber;
+use rules_numbers::MsgNumber;
+use rules_numbers::SeqNumber;
+use rules_packets::Place;
 
-// The place that the low two bits stand for.
+// The place given by the low two bits.
 pub fn place_of(bits: u32) -> Place
     ensures { λ r. ⌜ r ≡ placeOf bits ⌝ }
 {
@@ -23,7 +23,7 @@ pub fn place_of(bits: u32) -> Place
     Place::Only
 }
 
-// The sixteen header bytes, of the low bits of the place, the number and the message number.
+// The sixteen header bytes, made from the low bits of the place, the number and the message number.
 #[no_mangle]
 pub extern "C" fn phel_entry_header(
     out: &mut [u8; 16],

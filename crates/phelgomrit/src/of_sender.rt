@@ -1,5 +1,5 @@
-// The sender's calls: document 01, "Refusal numbers" and "Sending rules". What is kept goes in and comes back as numbers; a refused call gives
-// back what it was given.
+// The sender's calls: document 01, "Refusal numbers" and "Sending rules". The kept state goes in and comes back as
+// numbers; a refused call returns what it was given.
 ghost use mathlib.Core.Path.{_≡_};
 ghost use Rattle.sender.specs.Calls.{made};
 ghost use Rattle.host_structs.specs.Senders.{modeOf};
@@ -14,10 +14,10 @@ use host_structs::replies::NakAnswer;
 use host_structs::replies::RunAnswer;
 use host_structs::senders::FlatSender;
 use host_structs::starts::NewAnswer;
-use rtt::Rtt;
+use rules_numbers::Rtt;
 use sender::Sender;
 
-// A sender at its start.
+// A new sender.
 #[no_mangle]
 pub extern "C" fn phel_entry_new(
     settings: Settings,
@@ -31,7 +31,7 @@ pub extern "C" fn phel_entry_new(
     host_structs::starts::new_answer(Sender::new(settings, mode))
 }
 
-// A message with its time, brought at `ts_now`.
+// A message with its time, pushed at `ts_now`.
 #[no_mangle]
 pub extern "C" fn phel_entry_message(
     given: FlatSender,
@@ -50,7 +50,7 @@ pub extern "C" fn phel_entry_message(
     host_structs::replies::message_answer(given, answer)
 }
 
-// An ACK; `full` says whether it brings a full number, `measured` whether it brings a round-trip time.
+// An ACK; `full` says whether it has a full number, `measured` whether it has a round-trip time.
 #[no_mangle]
 pub extern "C" fn phel_entry_ack(
     given: FlatSender,
@@ -71,7 +71,7 @@ pub extern "C" fn phel_entry_ack(
     host_structs::acks::ack_answer(given, answer)
 }
 
-// A loss report; the runs of the answer go to `out`.
+// A loss report; the runs of the answer are written to `out`.
 #[no_mangle]
 pub extern "C" fn phel_entry_nak(
     given: FlatSender,
@@ -83,11 +83,11 @@ pub extern "C" fn phel_entry_nak(
     ensures { λ r. ⌜ reported r (now (lost .exit)) (now (out .exit))
         ≡ nak given (now (words .entry)) (now (ring .entry)) (now (lost .entry)) (now (out .entry)) ⌝ }
 {
-    let answer = answers::nak(given.sender(), words, ring, lost, out);
+    let answer = nak::nak(given.sender(), words, ring, lost, out);
     host_structs::replies::nak_answer(given, answer)
 }
 
-// A run at `ts_now`; the records go to `out`.
+// A run at `ts_now`; the records are written to `out`.
 #[no_mangle]
 pub extern "C" fn phel_entry_run(
     given: FlatSender,
@@ -102,7 +102,7 @@ pub extern "C" fn phel_entry_run(
         ≡ run given «ts_now» budget draining (now (ring .entry)) (now (lost .entry)) (now (out .entry)) ⌝ }
 {
     let s = given.sender();
-    let answer = sender_run::run(s, ts_now, budget, draining, ring, lost, out);
+    let answer = run::run(s, ts_now, budget, draining, ring, lost, out);
     host_structs::replies::run_answer(given, answer)
 }
 
@@ -117,7 +117,13 @@ pub extern "C" fn phel_entry_payload(
 ) -> PayloadAnswer
     ensures { λ r. ⌜ r ≡ payloadOf (payload given number (now (ring .entry)) (now (lost .entry)) (now (store .entry))) ⌝ }
 {
-    host_structs::questions::payload_answer(answers::payload(given.sender(), number, ring, lost, store))
+    host_structs::questions::payload_answer(payload::payload(
+        given.sender(),
+        number,
+        ring,
+        lost,
+        store,
+    ))
 }
 
 // The reports.
@@ -125,5 +131,5 @@ pub extern "C" fn phel_entry_payload(
 pub extern "C" fn phel_entry_reports(given: FlatSender, ring: &[u64], lost: &[u32]) -> ReportsAnswer
     ensures { λ r. ⌜ r ≡ reportsOf (reports given (now (ring .entry)) (now (lost .entry))) ⌝ }
 {
-    host_structs::questions::reports_answer(answers::reports(given.sender(), ring, lost))
+    host_structs::questions::reports_answer(reports::reports(given.sender(), ring, lost))
 }

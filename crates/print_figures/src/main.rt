@@ -1,14 +1,14 @@
-// Document 01's figures that the leaves decide, and the headers seen on the wire of a real receiver, computed by the proved code and
-// printed. The gate holds what is printed against crates/print_figures/stdout.
-use encapsulate::Cutting;
-use encapsulate::Place;
-use encapsulate::Split;
+// Document 01's figures on splitting and the header, and headers seen on the wire of a real receiver, computed by the
+// proved code and printed. The gate compares what is printed with crates/print_figures/stdout.
 use libc::STDOUT_FILENO;
-use numbers::MsgNumber;
-use numbers::SeqNumber;
-use timer::Timer;
-use timers::Timers;
-use timers::TimersSet;
+use rules_numbers::MsgNumber;
+use rules_numbers::SeqNumber;
+use rules_packets::Cutting;
+use rules_packets::Place;
+use rules_packets::Split;
+use rules_timers::Timer;
+use rules_timers::Timers;
+use rules_timers::TimersSet;
 
 fn text(bytes: &[u8]) {
     io::write_all(STDOUT_FILENO, bytes);
@@ -29,8 +29,8 @@ fn split(len: usize) {
     if let Cutting::Done(piece) = encapsulate::packet(len, 4, 0) {
         let place = piece.place;
         text(b" packets, the first with place ");
-        decimal((place.bits() / 2) as u64);
-        decimal((place.bits() % 2) as u64);
+        decimal((encapsulate::place_bits(place) / 2) as u64);
+        decimal((encapsulate::place_bits(place) % 2) as u64);
     }
     text(b"\n");
 }
@@ -49,7 +49,7 @@ fn show(h: [u8; 16]) {
     text(b"\n");
 }
 
-// The header of a message's only packet, `again` where it was sent before.
+// The header of a message's only packet; `again` if it was sent before.
 fn only(again: bool, number: u32, message: u32, stamp: u32, id: u32) {
     show(encapsulate::header(
         Place::Only,
@@ -79,7 +79,7 @@ fn main() {
     only(false, 0x09d9_589a, 2, 0x6ee, 0x3900_e136);
     only(true, 0x09d9_5cc6, 0x42e, 0xbe0, 0x3900_e136);
     text(b"the timers at the start:\n");
-    if let TimersSet::Done(ts) = Timers::new(0, 1_000_000_000, 5_000_000_000) {
+    if let TimersSet::Done(ts) = timers::new(0, 1_000_000_000, 5_000_000_000) {
         let snd = ts.snd;
         let ack = ts.full_ack;
         let nak = ts.nak;

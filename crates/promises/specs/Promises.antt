@@ -1,12 +1,11 @@
--- The public calls, one after the other: "holds after any calls whatsoever". Document 01: "Statements over several calls, demand 3 too, take books
--- and kept lent areas as this sender's last call left them."
---   World            the sender, the areas that stay lent between calls, and the store
---   Call, ruleOf     a public call with what it brings, its lent list too; the call of the rules that it is
---   Fits             what a call brings fits its type: words and a full number are u32
---   after, worlds    what a call leaves; what any calls leave, refused ones included
---   Same k w a       the call's answer, and every word of its lent list, is the rules' answer a
---   started          a fresh sender in lent areas
--- Assumes nothing.
+-- The public calls, one after the other. Document 01: "Statements over several calls, demand 3 too, take books and kept
+-- lent areas as this sender's last call left them."
+--   World           the sender, the areas that stay lent between calls, and the store
+--   Call, ruleOf    a public call with its arguments and its lent list; the same call in the rules
+--   Fits, AllFit    the arguments of a call, and of a list of calls, fit their types: words and full numbers are u32
+--   after, worlds   the world after a call, and after a list of calls, refused ones included
+--   Same k w a      the call's answer, with every word of its lent list, is the answer a of the rules
+--   started         a fresh sender in lent areas
 pub mod Always
 pub mod Coincide
 pub mod Refusals
@@ -14,8 +13,8 @@ use mathlib.Core.List.{List, [], _∷_}
 use Prim.Native.Nat.{ℕ, _/_, _^_, _<_}
 use mathlib.Core.Bool.{Bool}
 use lib.ListN.{length, getD}
-use Rattle.pacing.specs.declared.options.LiveBandwidthMode.{LiveBandwidthMode}
-use Rattle.pacing.specs.Books as Pacing
+use Rattle.rules_pacing.specs.declared.LiveBandwidthMode.{LiveBandwidthMode}
+use Rattle.rules_pacing.specs.Kept as Pacing
 use Rattle.rules.specs.Calls as rules
 use Rattle.rules.specs.Sender.{Sender}
 use Rattle.buffer.specs.declared.Settings.{Settings}
@@ -24,18 +23,18 @@ use Rattle.buffer_ack.specs.declared.FullAck.{FullAck}
 use Rattle.buffer_ack.specs.declared.FullAck.the-variants as full
 use Rattle.buffer_ack.specs.declared.AckRtt.{AckRtt}
 use Rattle.buffer_ack.specs.Ack.{fullOf, rttOf}
-use Rattle.sender.specs.Books.{Books, books, rulesOf}
+use Rattle.sender.specs.SenderAndAreas.{Books, books, rulesOf}
 use Rattle.sender.specs.Calls as Messages
 use Rattle.sender.specs.Calls.{senderOf}
 use Rattle.sender.specs.Calls.Stands as Message
 use Rattle.sender.specs.Acks as Acks
 use Rattle.sender.specs.Acks.Stands as Ack
-use Rattle.answers.specs.Naks as Naks
-use Rattle.answers.specs.Naks.Stands as Nak
-use Rattle.answers.specs.Payload as Payloads
-use Rattle.answers.specs.Payload.Stands as Payload
-use Rattle.sender_run.specs.Runs as Runs
-use Rattle.sender_run.specs.Runs.Stands as Run
+use Rattle.nak.specs.Naks as Naks
+use Rattle.nak.specs.Naks.Stands as Nak
+use Rattle.payload.specs.Payload as Payloads
+use Rattle.payload.specs.Payload.Stands as Payload
+use Rattle.run.specs.Runs as Runs
+use Rattle.run.specs.Runs.Stands as Run
 
 pub record World : Type 0 where
   pub books : Books

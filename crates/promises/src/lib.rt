@@ -1,1 +1,1 @@
-// What is promised of the sender's calls, one after the other, is in specs/Promises.antt. There is no code here.
+// What is promised of the sender's calls, one after the other: specs/Promises.antt. There is no code here.

@@ -1,12 +1,12 @@
 // Answers a stored script of calls of the leaves: 64 bytes in for each call, a line out. The gate holds the lines against crates/replay/stdout,
 // which the Rust wrote (compare/README.md, "The stored sample"), so that a clone without the Rust still hears what it answers.
+use compare_entries::of_pacing::compare_pacing_new;
+use compare_entries::of_timer::compare_timer_new;
 use host_structs::pacings::FlatPacing;
-use compare_entries::of_pacing::leaves_pacing_new;
-use compare_entries::of_timer::leaves_timer_new;
 use phelgomrit::of_timers::phel_entry_timers_new;
+use rules_timers::Timer;
+use rules_timers::Timers;
 use stored::Record;
-use timer::Timer;
-use timers::Timers;
 
 mod message_calls;
 mod pacing_calls;
@@ -28,9 +28,9 @@ struct Turn {
 }
 
 fn start() -> Bench {
-    let one = leaves_timer_new(0, 0);
+    let one = compare_timer_new(0, 0);
     let all = phel_entry_timers_new(0, 0, 0);
-    let pace = leaves_pacing_new(3, 0, 0);
+    let pace = compare_pacing_new(3, 0, 0);
     let timer = one.timer;
     let timers = all.timers;
     let pacing = pace.pacing;

@@ -1,13 +1,13 @@
 // Splitting, and headers.
 use crate::show;
-use compare_entries::of_message::leaves_split_packet;
-use compare_entries::of_message::leaves_split_packets;
+use compare_entries::of_message::compare_split_packet;
+use compare_entries::of_message::compare_split_packets;
 use phelgomrit::of_packet::phel_entry_header;
 use stored::Record;
 use stored::low;
 
 fn show_packet(len: usize, size: usize, k: usize) {
-    let a = leaves_split_packet(len, size, k);
+    let a = compare_split_packet(len, size, k);
     show::decimal(a.place as u64);
     show::decimal(a.len as u64);
 }
@@ -22,7 +22,7 @@ fn show_packets(len: usize, size: usize, n: usize) {
 }
 
 fn split(size: usize, len: usize) {
-    let a = leaves_split_packets(len, size);
+    let a = compare_split_packets(len, size);
     show::text(b"split");
     show::decimal(a.refusal as u64);
     show::decimal(a.packets as u64);

@@ -1,18 +1,18 @@
 // The calls of pacing.
 use crate::show;
-use host_structs::pacings::FlatPacing;
 use compare_entries::of_pacing::PacingAnswer;
-use compare_entries::of_pacing::leaves_pacing_new;
-use compare_entries::of_pacing::leaves_pacing_on_input;
-use rate::RateEstimation;
+use compare_entries::of_pacing::compare_pacing_new;
+use compare_entries::of_pacing::compare_pacing_on_input;
+use host_structs::pacings::FlatPacing;
+use rules_pacing::RateEstimation;
 use stored::Record;
 use stored::low;
 
 fn answer(pacing: FlatPacing, r: Record) -> PacingAnswer {
     if r.operation == 13 {
-        leaves_pacing_new(low(r.a), r.b, r.c)
+        compare_pacing_new(low(r.a), r.b, r.c)
     } else {
-        leaves_pacing_on_input(pacing, r.a, r.b, r.c)
+        compare_pacing_on_input(pacing, r.a, r.b, r.c)
     }
 }
 

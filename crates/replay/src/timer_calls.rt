@@ -1,23 +1,23 @@
 // The calls of one timer.
 use crate::show;
-use host_timers::NanosecondsAnswer;
 use compare_entries::of_timer::TimerAnswer;
-use compare_entries::of_timer::leaves_timer_check_expired;
-use compare_entries::of_timer::leaves_timer_new;
-use compare_entries::of_timer::leaves_timer_next_instant;
-use compare_entries::of_timer::leaves_timer_period;
-use compare_entries::of_timer::leaves_timer_reset;
-use compare_entries::of_timer::leaves_timer_set_period;
+use compare_entries::of_timer::compare_timer_check_expired;
+use compare_entries::of_timer::compare_timer_new;
+use compare_entries::of_timer::compare_timer_next_instant;
+use compare_entries::of_timer::compare_timer_period;
+use compare_entries::of_timer::compare_timer_reset;
+use compare_entries::of_timer::compare_timer_set_period;
+use host_timers::NanosecondsAnswer;
+use rules_timers::Timer;
 use stored::Record;
-use timer::Timer;
 
 fn answer(timer: Timer, r: Record) -> TimerAnswer {
     let operation = r.operation;
     match operation {
-        1 => leaves_timer_new(r.a, r.b),
-        2 => leaves_timer_set_period(timer, r.a),
-        3 => leaves_timer_reset(timer, r.a),
-        _ => leaves_timer_check_expired(timer, r.a),
+        1 => compare_timer_new(r.a, r.b),
+        2 => compare_timer_set_period(timer, r.a),
+        3 => compare_timer_reset(timer, r.a),
+        _ => compare_timer_check_expired(timer, r.a),
     }
 }
 
@@ -45,8 +45,8 @@ fn kept(before: Timer, r: Record, a: TimerAnswer) -> Timer {
 pub(crate) fn call(timer: Timer, r: Record) -> Timer {
     if r.operation == 5 {
         show::text(b"timer next");
-        show_nanoseconds(leaves_timer_next_instant(timer));
-        show_nanoseconds(leaves_timer_period(timer));
+        show_nanoseconds(compare_timer_next_instant(timer));
+        show_nanoseconds(compare_timer_period(timer));
         show::end();
         return timer;
     }

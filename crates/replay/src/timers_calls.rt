@@ -3,7 +3,6 @@ use crate::show;
 use crate::timer_calls::show_nanoseconds;
 use crate::timer_calls::show_timer;
 use host_timers::TimersAnswer;
-use rtt::Rtt;
 use phelgomrit::of_timers::phel_entry_timers_check_full_ack;
 use phelgomrit::of_timers::phel_entry_timers_check_nak;
 use phelgomrit::of_timers::phel_entry_timers_check_peer_idle_timeout;
@@ -14,9 +13,10 @@ use phelgomrit::of_timers::phel_entry_timers_next_timer;
 use phelgomrit::of_timers::phel_entry_timers_reset_exp;
 use phelgomrit::of_timers::phel_entry_timers_update_rtt;
 use phelgomrit::of_timers::phel_entry_timers_update_snd_period;
+use rules_numbers::Rtt;
+use rules_timers::Timers;
 use stored::Record;
 use stored::low;
-use timers::Timers;
 
 fn check(timers: Timers, which: u64, now: u64) -> TimersAnswer {
     match which {

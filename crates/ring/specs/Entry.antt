@@ -1,9 +1,10 @@
--- A packet's entry in the lent area: six words at slot × 6. Document 01: "Book areas have sizes fixed by the capacity alone".
---   words e             the entry's words in their order
---   readE xs k          the entry of slot k
---   writeFrom xs i j ws the words ws written at i + j, i + (j + 1), ..
---   writeE xs k e       the area with e in slot k
--- Assumes nothing.
+-- A packet's entry in the lent area: six words at slot × 6. Document 01: "Book areas have sizes fixed by the capacity
+-- alone".
+--   entry, words e        an entry from its words; the words of an entry, in order
+--   wordOf xs k j         word j of slot k
+--   readE xs k            the entry in slot k
+--   writeFrom xs i j ws   the area with the words ws written at i + j, i + (j + 1) and so on
+--   writeE xs k e         the area with e in slot k
 pub mod Laws
 use mathlib.Core.List.{List, [], _∷_}
 use Prim.Native.Nat.{ℕ, suc, _+_, _*_}

@@ -1,11 +1,10 @@
 -- The ring: which slot holds which packet. Document 01: "VecDeque .. become[s] a ring .. over lent numbers."
---   wrapOf n s        s, which goes round n slots at most once
---   slotOf r i        the slot of packet i from the front
---   tab k n f         f k, f (k + 1), .., n of them
---   packets r xs      the packets from the front: what the ring stands for
---   pushed r          one more at the back; removed k r   k fewer at the front
---   placed r n        the ring lies within n words, and has a capacity of 1 to 8,192
--- Assumes nothing.
+--   wrapOf n s              the slot s of n, which may have wrapped once
+--   slotOf r i              the slot of packet i from the front
+--   tab k n f               the n values f k, f (k + 1) and so on
+--   packets r xs            the packets from the front
+--   pushed r, removed k r   one more at the back; k fewer at the front
+--   placed r n              the ring fits in n words, and has a capacity of 1 to 8,192
 pub mod Laws
 use mathlib.Core.Bool.{Bool, cond, _&&_}
 use mathlib.Core.List.{List, [], _∷_}

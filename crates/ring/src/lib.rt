@@ -1,5 +1,5 @@
-// The buffered packets in a lent area: a ring of entries, six words each, in place of the Rust's `VecDeque<SendBufferEntry>`. Document 01,
-// "What must change shape". The buffer above checks its books, and only then calls these.
+// The buffered packets in a lent area: a ring of entries, six words each, in place of the Rust's
+// `VecDeque<SendBufferEntry>`. Document 01, "What must change shape". The buffer above has checked its books.
 ghost use mathlib.Core.Path.{_≡_};
 ghost use Prim.Native.Nat.{_+_, _*_, _≤_, _<_};
 ghost use lib.ListN.{length};
@@ -7,10 +7,10 @@ ghost use Rattle.ring.specs.Entry.{wordOf, readE, writeE};
 ghost use Rattle.ring.specs.Ring.{wrapOf, slotOf, pushed, removed, placed};
 ghost use Rattle.ring.specs.Ring.Laws.{Placed};
 
-// Words to an entry.
+// Words per entry.
 const WIDTH: usize = 6;
 
-// One buffered packet, as the words that it is kept in.
+// One buffered packet, in the words that it is kept in.
 pub struct Entry {
     pub time: u64,
     pub message: u64,
@@ -28,7 +28,7 @@ pub struct Ring {
     pub len: usize,
 }
 
-// The slot for a sum of slots that goes round at most once.
+// The slot for a sum of slots that wraps at most once.
 fn wrap(cap: usize, sum: usize) -> usize
     requires { ⌜ sum < cap + cap ⌝ }
     ensures { λ r. ⌜ (r ≡ wrapOf cap sum) × (r < cap) ⌝ }
@@ -72,7 +72,7 @@ fn put(area: &mut [u64], slot: usize, e: Entry)
 }
 
 impl Ring {
-    // Whether the ring lies within an area of so many words.
+    // Whether the ring fits in an area of this many words.
     pub fn placed(self, words: usize) -> bool
         ensures { λ r. ⌜ r ≡ placed self words ⌝ }
     {
@@ -100,7 +100,7 @@ impl Ring {
         get(area, self.slot_of(i))
     }
 
-    // Packet `i` from the front is written anew.
+    // Overwrites packet `i` from the front.
     pub fn set_entry(self, area: &mut [u64], i: usize, e: Entry)
         requires { ⌜ Placed self (now area) ⌝ }
         requires { ⌜ i < self .len ⌝ }
@@ -109,7 +109,7 @@ impl Ring {
         put(area, self.slot_of(i), e)
     }
 
-    // One packet more at the back; there is room.
+    // The ring with one more packet at the back; there is room.
     pub fn push_back(self, area: &mut [u64], e: Entry) -> Ring
         requires { ⌜ Placed self (now area) ⌝ }
         requires { ⌜ self .len < self .cap ⌝ }
@@ -123,7 +123,7 @@ impl Ring {
         }
     }
 
-    // `k` packets fewer at the front.
+    // The ring without the first `k` packets.
     pub fn remove_front(self, k: usize) -> Ring
         requires { ⌜ (self .slot < self .cap) × (self .len ≤ self .cap) × (self .cap ≤ 8192) × (k ≤ self .len) ⌝ }
         ensures { λ r. ⌜ r ≡ removed k self ⌝ }

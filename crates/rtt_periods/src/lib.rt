@@ -1,16 +1,11 @@
-// The periods that follow from a round-trip time: document 01, "Timers"; the Rust's `calculate_periods` in time/mod.rs. Nanoseconds.
+// The periods that follow from a round-trip time: document 01, "Timers"; the Rust's `calculate_periods` in time/mod.rs.
+// All are nanoseconds.
 ghost use mathlib.Core.Path.{_≡_};
 ghost use Prim.Native.Nat.{max};
-ghost use Rattle.rtt.specs.Rtt.{Ranged};
-ghost use Rattle.rtt_periods.specs.Periods.{nakPeriod, expPeriod, calculatePeriods};
-use rtt::Rtt;
-
-// The periods of the ACK, NAK and EXP timers.
-pub struct Periods {
-    pub ack: u64,
-    pub nak: u64,
-    pub exp: u64,
-}
+ghost use Rattle.rules_numbers.specs.Rtt.{Ranged};
+ghost use Rattle.rules_timers.specs.Periods.{nakPeriod, expPeriod, calculatePeriods};
+use rules_numbers::Rtt;
+use rules_timers::Periods;
 
 pub fn larger(a: u64, b: u64) -> u64
     ensures { λ r. ⌜ r ≡ max a b ⌝ }
@@ -28,7 +23,7 @@ fn nak_period(rtt: Rtt) -> u64
     larger((mean * 1_000 + 4 * (variance * 1_000)) / 2, 20_000_000)
 }
 
-// EXP: "count × (4 × mean + variance + 10 ms)", at least count × 300 ms, held at the longest period before it is multiplied out.
+// EXP: "count × (4 × mean + variance + 10 ms)", at least count × 300 ms, held at the longest period before multiplying.
 fn exp_period(exp_count: u32, rtt: Rtt) -> u64
     requires { ⌜ Ranged rtt ⌝ }
     ensures { λ r. ⌜ r ≡ expPeriod «exp_count» rtt ⌝ }
@@ -40,8 +35,8 @@ fn exp_period(exp_count: u32, rtt: Rtt) -> u64
         4 * (mean * 1_000) + variance * 1_000 + 10_000_000,
         300_000_000,
     );
-    if timer::PERIOD_MAX / one < count {
-        return timer::PERIOD_MAX;
+    if rules_timers::PERIOD_MOST / one < count {
+        return rules_timers::PERIOD_MOST;
     }
     count * one
 }

@@ -1,16 +1,16 @@
--- Document 01, "ACK". "First to next unsent, inclusive. RTT is taken over; then the full number is tested (expected starts at 1; after n it
--- is n + 1, without wrapping). Loss entries below the ACK go (`recovered`), then packets below it (`received`). Both counts and the full
--- number are returned."
---   ackOf s n                how far the ACK's number lies after the front: so many packets go
---   takeRtt rtt s            the RTT taken over, where one was brought
+-- Document 01, "ACK". "First to next unsent, inclusive. RTT is taken over; then the full number is tested (expected
+-- starts at 1; after n it is n + 1, without wrapping). Loss entries below the ACK go (`recovered`), then packets below
+-- it (`received`). Both counts and the full number are returned."
+--   ackOf s n                how far the ACK's number lies after the front: the number of packets acknowledged
+--   given o a                the value in o, or a where there is none
+--   takeRtt rtt s            the RTT taken over, where the ACK has one
 --   expect full e            the expected full number after an accepted ACK
 --   acknowledge c d full s   d packets acknowledged
 --   recovered, received      the two counts
--- Assumes nothing.
 use mathlib.Core.Option.{Option, none, some}
 use Prim.Native.Nat.{ℕ, _+_, _-_}
 use lib.ListN.{length, take, drop}
-use Rattle.rtt.specs.declared.Rtt.{Rtt}
+use Rattle.rules_numbers.specs.declared.Rtt.{Rtt}
 use Rattle.rules.specs.Numbers.{wire, distance}
 use Rattle.rules.specs.Settings.{Settings}
 use Rattle.rules.specs.Sender.{Sender, from, below, wireSizes}

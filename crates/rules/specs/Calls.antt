@@ -1,26 +1,27 @@
 -- The calls, one after the other. Document 01, "Refusal numbers": "All stays as before; 11 alone keeps a new RTT."
---   Call                     a call with what it brings
---   Said, Answer             what an accepted call answers; the verdict with that and the sender afterwards
---   verdictOf, saidBy, after the refusal of a call, and what it answers and leaves where it is accepted
---   left k s r               what a refusal leaves
---   answer c k s             a call's answer
---   calls c ks s             the sender after any calls, refused ones included; answers   all that they answer
---   storeAfter c k s store   the store after a call, and `stores` after any: only an accepted message writes
---   records a, units k a     the records of an answer; the units that an accepted run got; allRecords, allUnits   those of any calls
--- Assumes nothing.
-pub mod Laws
+--   Call                   a call with its arguments
+--   Said, Answer           what an accepted call answers; the verdict, that answer and the sender afterwards
+--   verdictOf              whether a call is accepted, or why it is refused
+--   saidBy, after          what an accepted call answers (pushedBy: a message), and the sender after it
+--   left k s r, withRtt    the sender after a refusal; the sender with the RTT of an ACK
+--   answer c k s           a call's answer (answerBy: given the verdict)
+--   calls, answers         the sender after a list of calls, refused ones included; all of their answers
+--   storeAfter, stores     the store after one call, and after a list: only an accepted message writes (storeBy: given
+--                          the verdict)
+--   records a, units k a   the records of an answer; the units that an accepted run got (recordsOf, unitsBy)
+--   allRecords, allUnits   those of a list of calls
 use mathlib.Core.Bool.{Bool, cond}
 use mathlib.Core.List.{List, [], _++_, _∷_}
 use mathlib.Core.Option.{Option}
 use Prim.Native.Nat.{ℕ, _+_}
 use lib.Dec.{eqb}
 use lib.ListN.{length}
-use Rattle.refusals.specs.declared.Refusal.{Refusal}
-use Rattle.refusals.specs.declared.Verdict.{Verdict}
-use Rattle.refusals.specs.declared.Verdict.the-variants.{Accepted, Refused}
-use Rattle.refusals.specs.Table.{numberOf}
-use Rattle.encapsulate.specs.Split.{count}
-use Rattle.rtt.specs.declared.Rtt.{Rtt}
+use Rattle.rules_refusals.specs.declared.Refusal.{Refusal}
+use Rattle.rules_refusals.specs.declared.Verdict.{Verdict}
+use Rattle.rules_refusals.specs.declared.Verdict.the-variants.{Accepted, Refused}
+use Rattle.rules_refusals.specs.Table.{numberOf}
+use Rattle.rules_packets.specs.Split.{count}
+use Rattle.rules_numbers.specs.declared.Rtt.{Rtt}
 use Rattle.rules.specs.Ack.{ackOf, acknowledge, received, recovered, takeRtt}
 use Rattle.rules.specs.Losses.{LossRun, itemsOf, joined, report, runsOf, wordsOf}
 use Rattle.rules.specs.Message.{begin, gone, goneBy, packetsOf, periodOf, push, stored}
@@ -31,7 +32,7 @@ use Rattle.rules.specs.Reports.{Lies, payloadOf}
 use Rattle.rules.specs.Run.{run}
 use Rattle.rules.specs.Sender.{Sender, wireSizes}
 use Rattle.rules.specs.Settings.{Settings}
-use Rattle.pacing.specs.Pacing as Pacing
+use Rattle.rules_pacing.specs.Pacing as Pacing
 
 pub data Call : Type 0 where
   message : (time now : ℕ) → (payload : List ℕ) → Call
@@ -56,7 +57,7 @@ pub record Answer : Type 0 where
   pub said : Said
   pub after : Sender
 
--- 11 alone keeps the RTT that the ACK brought
+-- 11 alone keeps the RTT that came with the ACK
 unfoldable pub withRtt : Call → Sender → Sender
 withRtt (message time now bytes) s = s
 withRtt (ack number full rtt) s = takeRtt rtt s

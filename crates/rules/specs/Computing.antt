@@ -1,14 +1,13 @@
--- The definitions of this crate, and what they cite of the leaves, opened all at once: for figures and worked examples that computing closes.
--- Assumes nothing.
-use Rattle.encapsulate.specs.Split as Split
-use Rattle.rate.specs.Rate as Rate
-use Rattle.pacing.specs.Period as Period
-use Rattle.pacing.specs.Books as PacingBooks
-use Rattle.pacing.specs.Pacing as Pacing
+-- The definitions of this crate, and those they use, unfolded all at once for figures and examples proved by computing.
+use Rattle.rules_packets.specs.Split as Split
+use Rattle.rules_pacing.specs.Rate as Rate
+use Rattle.rules_pacing.specs.Period as Period
+use Rattle.rules_pacing.specs.Kept as PacingBooks
+use Rattle.rules_pacing.specs.Pacing as Pacing
 use Rattle.rules.specs.Numbers.{distance}
 use Rattle.rules.specs.Settings.{inRange}
 use Rattle.rules.specs.Sender as Sender
-use Rattle.rules.specs.Books as Books
+use Rattle.rules.specs.BookRules as Books
 use Rattle.rules.specs.Message as Message
 use Rattle.rules.specs.Ack as Ack
 use Rattle.rules.specs.Losses as Losses
@@ -26,7 +25,7 @@ unfolding Split.count Split.placeOf Rate.newMean Rate.estimate Period.period Pac
     Message.pushAll Message.goneBy Message.begin Message.push Message.written Message.stored Ack.given Ack.takeRtt Ack.expect
     Ack.acknowledge Losses.before Losses.isRange Losses.parse Losses.wordsOf Losses.kindBy Losses.kindOf Losses.reachBy Losses.reach
     Losses.stretch Losses.itemRuns Losses.runsOf Losses.glue Losses.joined Losses.entered Losses.enterBy Losses.enterAll Losses.report
-    Records.code Records.bytesOf Records.encode Records.sentBefore Records.sendRecord Records.dropRecord Records.waitInput Records.waitAck
+    Records.code Records.encode Records.sentBefore Records.sendRecord Records.dropRecord Records.waitInput Records.waitAck
     Run.base Run.wait Run.stamped Run.sent Run.orHere Run.earliest Run.first Run.loop Run.lateFrom Run.late Run.dropped Run.rule Run.send
     Run.extra Run.flushed Run.obey Run.others Run.turnBy Run.turn Run.run Reports.isFlushed Reports.hasPacketsToSend Reports.timeOf
     Reports.bufferedTime Reports.heldOf Reports.payloadOf Refusals.newVerdict Refusals.countIsFull Refusals.messageVerdict Refusals.badRtt

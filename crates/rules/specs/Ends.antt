@@ -1,30 +1,29 @@
--- Each range of document 01 at its end and one past it, computed from the definitions: where a definition takes in too much or too little,
--- one of these falls.
---   settings, modes        "Numbers and their ends": what a sender may be asked for; "Rates to 2^40, overhead to 10,000."
---   capacities             "Capacity is the buffer size, or 1 where that is 0."
---   full                   5 and 6: the longest message, the byte count
---   whole, edges           "Book rules": books that keep them all, each at its end
---   damaged                books that break one rule, one after the other
---   lowest                 damaged settings; 3 comes before what else is bad
---   wraps                  the message counter
--- Assumes nothing.
+-- Each range of document 01 at its end and one past it, computed from the definitions: if a definition admits too much
+-- or too little, one of these fails.
+--   settings, modes   "Numbers and their ends": the settings of a new sender; "Rates to 2^40, overhead to 10,000."
+--   capacities        "Capacity is the buffer size, or 1 where that is 0."
+--   full              5 and 6: the longest message, the byte count
+--   whole, edges      "Book rules": books that keep them all, with each value at its end
+--   damaged           books that each break one rule
+--   lowest            settings out of range; 3 comes before whatever else is bad
+--   wraps             the message counter
 use mathlib.Core.Path.{_≡_, refl}
 use mathlib.Core.Bool.{Bool, false, true}
 use mathlib.Core.List.{List, [], _∷_, map}
 use mathlib.Core.Option.{Option, none, some}
 use Prim.Native.Nat.{_+_, _-_, _^_, ℕ}
 use lib.ListN.{length, replicate}
-use Rattle.refusals.specs.declared.Refusal.the-variants.{BadSetting, BadState, CountFull, TooLong}
-use Rattle.refusals.specs.declared.Verdict.{Verdict}
-use Rattle.refusals.specs.declared.Verdict.the-variants.{Accepted, Refused}
-use Rattle.encapsulate.specs.declared.Place.the-variants.{Only}
-use Rattle.rtt.specs.declared.Rtt.{Rtt}
-use Rattle.pacing.specs.declared.Next.the-variants.{At}
-use Rattle.pacing.specs.declared.options.LiveBandwidthMode.{LiveBandwidthMode}
-use Rattle.pacing.specs.declared.options.LiveBandwidthMode.the-variants.{Estimated, Input, Max, Unlimited}
-use Rattle.pacing.specs.declared.SenderCongestionControl.{SenderCongestionControl}
-use Rattle.pacing.specs.Books as Pacing
-use Rattle.rules.specs.Books.{kept}
+use Rattle.rules_refusals.specs.declared.Refusal.the-variants.{BadSetting, BadState, CountFull, TooLong}
+use Rattle.rules_refusals.specs.declared.Verdict.{Verdict}
+use Rattle.rules_refusals.specs.declared.Verdict.the-variants.{Accepted, Refused}
+use Rattle.rules_packets.specs.declared.Place.the-variants.{Only}
+use Rattle.rules_numbers.specs.declared.Rtt.{Rtt}
+use Rattle.rules_pacing.specs.declared.Next.the-variants.{At}
+use Rattle.rules_pacing.specs.declared.LiveBandwidthMode.{LiveBandwidthMode}
+use Rattle.rules_pacing.specs.declared.LiveBandwidthMode.the-variants.{Estimated, Input, Max, Unlimited}
+use Rattle.rules_pacing.specs.declared.SenderCongestionControl.{SenderCongestionControl}
+use Rattle.rules_pacing.specs.Kept as Pacing
+use Rattle.rules.specs.BookRules.{kept}
 use Rattle.rules.specs.Calls.{calls, message}
 use Rattle.rules.specs.Computing.{computes}
 use Rattle.rules.specs.Refusals.{messageVerdict, nakVerdict, newVerdict}
@@ -38,7 +37,7 @@ setting first size buffer flow latency overhead socket =
 abbrev asked : List Settings → List Verdict
 asked cs = map (λ (c : Settings). newVerdict c Unlimited) cs
 
--- the least and the most of each; then each past its end
+-- each at its least and at its most; then each past its end
 pub settings :
     (asked (setting 0 1 0 0 0 0 0 ∷ setting (2 ^ 31 - 1) 1_456 8_192 65_535 65_535_000 128 (2 ^ 32 - 1) ∷ []) ≡ replicate 2 Accepted)
     × (asked
@@ -100,7 +99,7 @@ unsent = packetOf 0 1 4 0 0
 abbrev books : List Packet → ℕ → List ℕ → ℕ → Sender
 books ps next lost bytes = put (fresh small Unlimited) ps 5 next lost bytes
 
--- nothing buffered, and the rest that a sender keeps
+-- nothing buffered; the other fields of a sender
 abbrev rest : ℕ → Rtt → ℕ → Option Held → SenderCongestionControl → Sender
 rest expected rtt messages held pacing = record {
   packets = [];
@@ -144,8 +143,9 @@ pub edges : judged
 unfolding computes
 edges = refl
 
--- over the capacity; next unsent before the front, past one past the back; the loss list below the front, of an unsent one, turned, with a
--- repeat; a sent packet's time, message, length, transmit count and resend time; an unsent one's; the byte count; and the rest
+-- over the capacity; next unsent before the front, or more than one past the back; a loss list that has a number below
+-- the front, an unsent one, the wrong order, a repeat; a sent packet's time, message, length, transmit count and resend
+-- time; an unsent one's; the byte count; and the other fields
 pub damaged : judged
     (books (sent ∷ sent ∷ sent ∷ []) 8 [] 96
     ∷ books (unsent ∷ []) 4 [] 64

@@ -1,27 +1,34 @@
--- Worked examples of runs, computed by hand from document 01: where a definition goes wrong, one of these falls. Those of the other calls
--- are in Examples/Calls.
---   past-window, past-budget   rule 5's second packet goes past the flow window and past the budget, and costs a unit where one is left
---   not-sixteen                its number divides by 16, not by 8
---   never-stamp                a packet that is fresh after the stamp's rollover is sent, one that is late is dropped
---   same-message               rule 1 takes a packet that is not late with the late one of its message, and stops at the next message
---   ties                       rule 3 takes the earliest, of two alike the nearer to the front
+-- Worked examples of runs, computed by hand from document 01: if a definition is wrong, one of these fails. Others are
+-- in Examples/: Calls (all other calls), Refusals (their order), Turns (of a run), Records (byte by byte), Payloads
+-- (where they lie; the period) and Feedback (ACKs and loss reports).
+--   past-window, past-budget   rule 5's second packet goes past flow window and budget, and costs a unit if one is left
+--   not-sixteen                its number must be divisible by 16, not by 8
+--   never-stamp                a packet that is fresh after the stamp's rollover is sent, a late one is dropped
+--   same-message               rule 1 also drops packets of the late one's message, and stops at the next message
+--   ties                       rule 3 takes the earliest; of two equal ones, the nearer to the front
 --   caps                       the addition is held at 2^30 − 1, the transmit count at 65,535
---   flush, window-first        rule 6 holds the payload until the next message; with flow window 0 rule 4 comes before it
+--   flush, window-first        rule 6 holds the payload until the next message; with flow window 0 rule 4 comes first
 --   by-loss                    rule 2 takes the number nearest the front off the list
---   fields                     each field of the records; the stamp is the time's low 32 bits; the header's number is of 31 bits
--- Assumes nothing.
+--   fields                     each field of the records; the stamp is the time's low 32 bits; the header's number has
+--                              31 bits
+--   small, said, verdicts, shown, shows, sent, begun, bytes, packetAt, holding   shorthands for all examples
 pub mod Calls
+pub mod Feedback
+pub mod Payloads
+pub mod Records
+pub mod Refusals
+pub mod Turns
 use mathlib.Core.Path.{_≡_, refl}
 use mathlib.Core.Bool.{false, true}
 use mathlib.Core.List.{List, [], _∷_, map}
 use mathlib.Core.Option.{none}
 use Prim.Native.Nat.{_*_, _+_, _-_, _^_, ℕ}
 use lib.ListN.{length, replicate}
-use Rattle.refusals.specs.declared.Refusal.the-variants.{BadNumber, BadTime, NotHeld}
-use Rattle.refusals.specs.declared.Verdict.{Verdict}
-use Rattle.refusals.specs.declared.Verdict.the-variants.{Accepted, Refused}
-use Rattle.encapsulate.specs.declared.Place.the-variants.{Only}
-use Rattle.pacing.specs.declared.options.LiveBandwidthMode.the-variants.{Unlimited}
+use Rattle.rules_refusals.specs.declared.Refusal.the-variants.{BadNumber, BadTime, NotHeld}
+use Rattle.rules_refusals.specs.declared.Verdict.{Verdict}
+use Rattle.rules_refusals.specs.declared.Verdict.the-variants.{Accepted, Refused}
+use Rattle.rules_packets.specs.declared.Place.the-variants.{Only}
+use Rattle.rules_pacing.specs.declared.LiveBandwidthMode.the-variants.{Unlimited}
 use Rattle.rules.specs.Calls.{Answer, Call, Ran, Said, allRecords, answer, answers, calls, message, nak, payload, records, runs}
 use Rattle.rules.specs.Computing.{computes}
 use Rattle.rules.specs.Records.{Action, code, headerOf}
@@ -55,13 +62,13 @@ begun c = fresh c Unlimited
 abbrev pub bytes : ℕ → List ℕ
 bytes n = replicate n 0
 
--- flow window 0: 15 goes, and 16 with it
+-- flow window 0: 15 is sent, and 16 with it
 pub past-window : sent (small 15 4 0) (message 0 0 (bytes 12) ∷ runs 0 5 false 9 ∷ []) (begun (small 15 4 0))
     ≡ (1 ∷ 15 ∷ []) ∷ (1 ∷ 16 ∷ []) ∷ (6 ∷ 0 ∷ []) ∷ []
 unfolding computes
 past-window = refl
 
--- budget 1: both go, none is left; budget 2: both go and cost both; budget 3: one left for 17
+-- budget 1: both go and none is left; budget 2: both go and use it up; budget 3: one unit is left for 17
 pub past-budget : (answer (small 15 4 9) (runs 0 1 false 9)
     (calls (small 15 4 9) (message 0 0 (bytes 12) ∷ []) (begun (small 15 4 9))) .said
     ≡ Ran (records (answer (small 15 4 9) (runs 0 2 false 9)
@@ -75,7 +82,7 @@ pub not-sixteen : sent (small 7 4 9) (message 0 0 (bytes 12) ∷ runs 0 1 false 
 unfolding computes
 not-sixteen = refl
 
--- 2^32 is the stamp's rollover: a packet of 2^32 − 5 at 2^32 + 5 is fresh; one of 5 is late at 1,000,006, and was so not before
+-- The stamp rolls over at 2^32: a packet of 2^32 − 5 is fresh at 2^32 + 5; one of 5 is late at 1,000,006 and not before
 pub never-stamp :
     (sent (small 0 4 9) (message (2 ^ 32 - 5) 0 (bytes 1) ∷ runs (2 ^ 32 + 5) 1 false 9 ∷ []) (begun (small 0 4 9)) ≡ (1 ∷ 0 ∷ []) ∷ [])
     × (sent (small 0 4 9) (message (2 ^ 32 + 5) 0 (bytes 1) ∷ runs (2 ^ 32 + 1_000_005) 1 false 9 ∷ []) (begun (small 0 4 9))
@@ -83,10 +90,10 @@ pub never-stamp :
     × (sent (small 0 4 9) (message 5 0 (bytes 1) ∷ runs 1_000_005 1 false 9 ∷ []) (begun (small 0 4 9)) ≡ (1 ∷ 0 ∷ []) ∷ [])
     × (shows (small 0 4 9) (message 5 0 (bytes 1) ∷ runs 1_000_006 1 false 9 ∷ []) (begun (small 0 4 9))
     ≡ (4 ∷ 0 ∷ 0 ∷ 0 ∷ 1 ∷ 0 ∷ 0 ∷ []) ∷ (5 ∷ 0 ∷ 0 ∷ 0 ∷ 0 ∷ 0 ∷ 0 ∷ []) ∷ [])
-    -- one of 2^32 − 5 is late at 2^32 + 1,000,000, though its stamp is far above now's
+    -- one of 2^32 − 5 is late at 2^32 + 1,000,000, though its stamp is far above that of now
     × (sent (small 0 4 9) (message (2 ^ 32 - 5) 0 (bytes 1) ∷ runs (2 ^ 32 + 1_000_000) 1 false 9 ∷ []) (begun (small 0 4 9))
     ≡ (4 ∷ 0 ∷ []) ∷ (5 ∷ 0 ∷ []) ∷ [])
-    -- the late drop leaves the byte count
+    -- a late drop doesn't change the byte count
     × (calls (small 0 4 9) (message 5 0 (bytes 1) ∷ runs 1_000_006 1 false 9 ∷ []) (begun (small 0 4 9)) .bytes ≡ 29)
 unfolding computes
 never-stamp = (refl, refl, refl, refl, refl, refl)
@@ -98,7 +105,7 @@ packetAt time of n resend = record { time = time; message = of; place = Only; le
 abbrev pub holding : Settings → List Packet → ℕ → Sender
 holding c ps n = put (fresh c Unlimited) ps (c .first) (c .first + n) [] (length ps * 29)
 
--- late, not late but of its message, not late of another
+-- a late packet, one of its message that isn't late, one of another message that isn't late, and a late one behind it
 abbrev mixed : Sender
 mixed = holding (small 0 9 9) (packetAt 0 3 0 0 ∷ packetAt 9 3 0 0 ∷ packetAt 9 4 0 0 ∷ packetAt 0 4 0 0 ∷ []) 0
 
@@ -120,7 +127,7 @@ pub caps : map (λ (p : Packet). p .count ∷ p .resend ∷ [])
 unfolding computes
 caps = refl
 
--- sent, flushed and still readable, then not
+-- sent, flushed and still held; after the next message no longer
 pub flush :
     (shows (small 5 2 9) (message 8 0 (bytes 3) ∷ runs 8 2 true 9 ∷ []) (begun (small 5 2 9))
     ≡ (1 ∷ 192 ∷ 3 ∷ 5 ∷ 0 ∷ 8 ∷ 8 ∷ []) ∷ (1 ∷ 193 ∷ 3 ∷ 5 ∷ 0 ∷ 8 ∷ 8 ∷ []) ∷ [])
@@ -149,7 +156,7 @@ pub by-loss :
 unfolding computes
 by-loss = refl
 
--- a packet sent after the stamp's rollover, and the wait with one unacknowledged; a number past 2^31
+-- a packet sent after the stamp's rollover, then the wait for its ACK; a number past 2^31
 pub fields :
     (shows (small 0 4 0) (message (2 ^ 32 + 5) 0 (bytes 1) ∷ runs (2 ^ 32 + 5) 2 false 9 ∷ []) (begun (small 0 4 0))
     ≡ (1 ∷ 192 ∷ 1 ∷ 0 ∷ 0 ∷ 5 ∷ (2 ^ 32 + 5) ∷ []) ∷ (6 ∷ 0 ∷ 0 ∷ 0 ∷ 1 ∷ 10_000 ∷ 0 ∷ []) ∷ [])

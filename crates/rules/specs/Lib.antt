@@ -1,7 +1,7 @@
 pub mod Numbers
 pub mod Settings
 pub mod Sender
-pub mod Books
+pub mod BookRules
 pub mod Message
 pub mod Ack
 pub mod Losses

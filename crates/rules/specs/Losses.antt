@@ -1,13 +1,20 @@
 -- Document 01, "Loss words" (the draft, Appendix A), and row 12 of "Refusal numbers".
---   Item, Words, parse   the items of a report: one number, or a range by its two ends; or the index of the first bad item's first word
---   itemsOf w            its items, none where one is bad
---   LossKind, kindOf     "A number is Added if buffered and sent; else Ignored if its distance from next unsent is below 2^30; else Dropped."
---   reach s m            how many numbers from m on are of m's kind, one after the other
---   LossRun, endOf       a run of one kind and consecutive numbers, and its exclusive end
---   itemRuns s i         an item's runs, by the ends of its range: three always do (crates/rules_theorems, proofs/Losses.antt)
---   runsOf s is          the runs of all items, in order; joined   those that meet made one: the answer
---   report               the loss list after a report: "Added numbers enter the list once."
--- Assumes nothing.
+--   Item, Words         one number, or a range by its two ends; a report's items, or the index of the first bad item's
+--                       first word
+--   before, isRange     an item put before the others; whether two words are a range
+--   parse, wordsOf      the items of words, and of a whole report
+--   itemsOf w           its items, none where one is bad
+--   LossKind, kindOf    "A number is Added if buffered and sent; else Ignored if its distance from next unsent is below
+--                       2^30; else Dropped." (kindBy: by the two tests)
+--   reach s m           how many consecutive numbers from m on are of m's kind (reachBy: given the kind)
+--   LossRun, endOf      a run of one kind and consecutive numbers, and its exclusive end
+--   itemRuns, stretch   an item's runs, found from the ends of its range: there are at most three (crate
+--                       rules_theorems, proofs/Losses.antt)
+--   runsOf s is         the runs of all items, in order
+--   sameKind, meets     whether one run continues another
+--   joined, glue        the answer: runs that continue each other are joined
+--   report              the loss list after a report: "Added numbers enter the list once." (entered, enterBy, enterAll:
+--                       the numbers of a run, of a run by its kind, of all runs)
 use mathlib.Core.Bool.{Bool, true, false, _&&_, cond}
 use mathlib.Core.List.{List, [], _∷_, _++_}
 use Prim.Native.Nat.{ℕ, zero, suc, _+_, _-_, _^_, min}
@@ -28,11 +35,12 @@ unfoldable pub before : Item → Words → Words
 before i (items is) = items (i ∷ is)
 before i (bad index) = bad index
 
--- "top bit 1 opens a range whose next word, top bit 0, is its inclusive last. Distance first to last must be below 2^30."
+-- "top bit 1 opens a range whose next word, top bit 0, is its inclusive last. Distance first to last must be below
+-- 2^30."
 unfoldable pub isRange : ℕ → ℕ → Bool
 isRange a b = ltb b (2 ^ 31) && ltb (distance (a - 2 ^ 31) b) (2 ^ 30)
 
--- "A word with top bit 0 is one number"; i is the index of the first of the words
+-- "A word with top bit 0 is one number"; i is the index of the first word
 unfoldable pub parse : ℕ → List ℕ → Words
 parse i [] = items []
 parse i (a ∷ []) = cond (ltb a (2 ^ 31)) (items (record { first = a; last = a } ∷ [])) (bad i)
@@ -60,7 +68,7 @@ kindBy false false = Dropped
 unfoldable pub kindOf : Sender → ℕ → LossKind
 kindOf s m = kindBy (ltb (distance (wire (s .front)) m) (sentOf s)) (ltb (distance (wire (s .next)) m) (2 ^ 30))
 
--- up to next unsent; up to 2^30 past that; up to the front
+-- Added up to next unsent, Ignored up to 2^30 past that, Dropped up to the front
 unfoldable pub reachBy : Sender → ℕ → LossKind → ℕ
 reachBy s m Added = sentOf s - distance (wire (s .front)) m
 reachBy s m Ignored = 2 ^ 30 - distance (wire (s .next)) m
@@ -77,7 +85,7 @@ pub record LossRun : Type 0 where
 abbrev pub endOf : LossRun → ℕ
 endOf r = wire (r .first + r .count)
 
--- the runs of n numbers from m on, at most f of them
+-- the runs of the n numbers from m on, at most f runs
 unfoldable pub stretch : Sender → ℕ → ℕ → ℕ → List LossRun
 stretch s zero m n = []
 stretch s (suc f) m zero = []
@@ -103,7 +111,7 @@ sameKind Dropped Added = false
 sameKind Dropped Ignored = false
 sameKind Dropped Dropped = true
 
--- r goes on into q: "of one kind and consecutive numbers"
+-- r continues into q: "of one kind and consecutive numbers"
 abbrev pub meets : LossRun → LossRun → Bool
 meets r q = sameKind (r .kind) (q .kind) && eqb (endOf r) (q .first)
 
@@ -116,7 +124,7 @@ unfoldable pub joined : List LossRun → List LossRun
 joined [] = []
 joined (r ∷ rs) = glue r (joined rs)
 
--- the k numbers from n on enter the list
+-- the list with the k numbers from n on entered
 unfoldable pub entered : ℕ → ℕ → List ℕ → List ℕ
 entered n zero xs = xs
 entered n (suc k) xs = entered (suc n) k (insert n xs)

@@ -1,13 +1,15 @@
--- Document 01, "Message" and "Byte count". How a message is cut is the crate encapsulate's, what pacing does the crate pacing's.
---   packetOf, packetsOf   "It becomes max(1, ceil(length / size)) packets": packet k, and all, with time, message number and length
---   makeRoom, gone        "Pushing into a full buffer first removes the front packet, from the loss list too.": what is left, what goes
---   append, pushAll       a packet, and all packets, pushed; goneBy   the packets removed by that
---   begin                 the counter "goes up once per message"; pacing "takes the packets made and their payload bytes"; a flushed
---                         payload is no longer held
+-- Document 01, "Message" and "Byte count". How a message is split is defined in rules_packets, pacing in rules_pacing.
+--   packetOf, packetsOf   "It becomes max(1, ceil(length / size)) packets": packet k, and all of them
+--   packetsFrom           n of them, from packet k on
+--   makeRoom, gone        "Pushing into a full buffer first removes the front packet, from the loss list too.": the
+--                         sender afterwards, and the packet removed
+--   append                one packet pushed
+--   pushAll, goneBy       all packets pushed, and the packets removed by that
+--   begin                 the counter "goes up once per message"; pacing "takes the packets made and their payload
+--                         bytes"; a flushed payload is no longer held
 --   push                  the sender after a message
 --   periodOf              "any new period"
 --   written, stored       the store after a message: "Only pushed payload bytes change."
--- Assumes nothing.
 use mathlib.Core.Bool.{cond}
 use mathlib.Core.List.{List, [], _∷_, _++_}
 use mathlib.Core.Option.{Option, none, some}
@@ -15,10 +17,11 @@ use Prim.Native.Nat.{ℕ, zero, suc, _+_, _-_, _%_, _^_}
 use lib.Dec.{leb}
 use lib.ListN.{length, take, drop}
 use lib.Seq.{paste}
-use Rattle.encapsulate.specs.Split.{count, pieceOf, startOf, lengthOf}
-use Rattle.pacing.specs.declared.Paced.{Paced}
-use Rattle.pacing.specs.declared.Paced.the-variants.{Silent, Period, Refused}
-use Rattle.pacing.specs.Pacing.{after}
+use Rattle.rules_numbers.specs.Modular.{msgs}
+use Rattle.rules_packets.specs.Split.{count, pieceOf, startOf, lengthOf}
+use Rattle.rules_pacing.specs.declared.Paced.{Paced}
+use Rattle.rules_pacing.specs.declared.Paced.the-variants.{Silent, Period, Refused}
+use Rattle.rules_pacing.specs.Pacing.{after}
 use Rattle.rules.specs.Settings.{Settings, capacity, placeOf}
 use Rattle.rules.specs.Sender.{Packet, Sender, remove, wireSizes}
 
@@ -74,14 +77,14 @@ begin c now len s = record {
   lost = s .lost;
   bytes = s .bytes;
   rtt = s .rtt;
-  messages = (s .messages + 1) % 2 ^ 26;
+  messages = (s .messages + 1) % msgs;
   expected = s .expected;
   held = none;
   pacing = after (s .pacing) now (count (c .size) len) len;
   pushed = s .pushed;
 }
 
--- a message of len bytes, with its time, brought at now
+-- a message of len bytes with this time, pushed at now
 unfoldable pub push : Settings → ℕ → ℕ → ℕ → Sender → Sender
 push c time now len s = pushAll c (packetsOf c time (s .messages) len) (begin c now len s)
 
@@ -90,7 +93,7 @@ periodOf (Silent pacing) = none
 periodOf (Period period pacing) = some period
 periodOf (Refused r) = none
 
--- n packets from packet i on, the first of them the k-th ever pushed: each payload over what lay in its slot
+-- n packets from packet i on, the first being the k-th ever pushed: each payload is written to its slot
 unfoldable pub written : Settings → List ℕ → ℕ → ℕ → ℕ → List ℕ → List ℕ
 written c payload k i zero store = store
 written c payload k i (suc n) store =

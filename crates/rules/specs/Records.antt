@@ -1,15 +1,15 @@
 -- Document 01, "Action record" and "Header".
 --   Kind, code, isSend   "kind (1 Send, 2 resend by time, 3 resend by loss, 4 Drop, 5 wait input, 6 wait ACK)"; 1 for the sends
---   Action, encode       a record, and its "24 bytes, little-endian"
+--   Action, encode       a record, and its "24 bytes, little-endian": each field with its lowest byte first (crate rules_numbers, Bytes)
 --   sends rs             how many of the records are sends
 --   again p              "retransmitted": whether the packet was sent before
 --   sendRecord ..        the records of the rules; "Unused fields are 0"
 --   headerOf c n p       the 16 header bytes before the payload of p, with number n (crate encapsulate)
--- Assumes nothing.
 use mathlib.Core.Bool.{Bool, true, false}
 use mathlib.Core.List.{List, [], _∷_, _++_}
-use Prim.Native.Nat.{ℕ, zero, suc, _+_, _*_, _/_, _%_}
-use Rattle.encapsulate.specs.Header.{placeBits, bit, stamp, header}
+use Prim.Native.Nat.{ℕ, zero, suc, _+_, _*_}
+use Rattle.rules_numbers.specs.Bytes.{little}
+use Rattle.rules_packets.specs.Header.{placeBits, bit, stamp, header}
 use Rattle.rules.specs.Numbers.{wire}
 use Rattle.rules.specs.Settings.{Settings}
 use Rattle.rules.specs.Sender.{Packet}
@@ -49,14 +49,10 @@ abbrev pub sends : List Action → ℕ
 sends [] = 0
 sends (a ∷ rs) = isSend (a .kind) + sends rs
 
-unfoldable pub bytesOf : ℕ → ℕ → List ℕ
-bytesOf zero x = []
-bytesOf (suc k) x = x % 256 ∷ bytesOf k (x / 256)
-
 unfoldable pub encode : Action → List ℕ
 encode a =
-    bytesOf 1 (code (a .kind)) ++ (bytesOf 1 (a .flags) ++ (bytesOf 2 (a .len) ++ (bytesOf 4 (a .number)
-    ++ (bytesOf 4 (a .word) ++ (bytesOf 4 (a .stamp) ++ bytesOf 8 (a .time))))))
+    little 1 (code (a .kind)) ++ (little 1 (a .flags) ++ (little 2 (a .len) ++ (little 4 (a .number)
+    ++ (little 4 (a .word) ++ (little 4 (a .stamp) ++ little 8 (a .time))))))
 
 -- "The retransmitted flag is clear on the first sending only."
 unfoldable pub sentBefore : ℕ → Bool

@@ -1,11 +1,10 @@
--- Document 01, "What the hub takes from the crate": "the reports flushed, has packets to send, buffered packets, bytes and time (back's
--- time less front's, 0 if negative or nothing is buffered)"; and the payload that is asked for by number.
---   isFlushed s           nothing buffered and the loss list empty
---   hasPacketsToSend s    the next unsent is buffered, or the loss list isn't empty
---   bufferedPackets, bufferedBytes, bufferedTime
---   Lies, payloadOf c s n where the payload of the number n of 31 bits lies in the store; none where it isn't held: held are the
---                         buffered ones, and the flushed one "until the next accepted message"
--- Assumes nothing.
+-- Document 01, "What the hub takes from the crate": "the reports flushed, has packets to send, buffered packets, bytes
+-- and time (back's time less front's, 0 if negative or nothing is buffered)"; and where a payload lies.
+--   isFlushed s             nothing is buffered and the loss list is empty
+--   hasPacketsToSend s      the next unsent is buffered, or the loss list is not empty (isEmpty)
+--   bufferedPackets, bufferedBytes, bufferedTime   the other three reports (timeOf: the time of a list of packets)
+--   Lies, payloadOf c s n   where the payload of the 31-bit number n lies in the store; none where it isn't held. Held
+--                           are the buffered packets, and the flushed one (heldOf) "until the next accepted message"
 use mathlib.Core.Bool.{Bool, true, false, cond, not, _&&_, _||_}
 use mathlib.Core.List.{List, [], _∷_}
 use mathlib.Core.Option.{Option, none, some}
@@ -32,7 +31,7 @@ bufferedPackets s = length (s .packets)
 abbrev pub bufferedBytes : Sender → ℕ
 bufferedBytes s = s .bytes
 
--- the subtraction of natural numbers stops at 0
+-- subtraction of natural numbers stops at 0
 unfoldable pub timeOf : List Packet → ℕ
 timeOf [] = 0
 timeOf (p ∷ ps) = getD (p ∷ ps) (length ps) nothing .time - p .time

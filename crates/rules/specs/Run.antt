@@ -1,19 +1,23 @@
--- Document 01, "Run": "(now, budget p, draining) .. While budget remains, the first that applies". The rules are numbered as there.
---   base, wait          "C = mean + 4 × variance + 20,000"; what is added to now, by the sendings before this one
---   stamped, sent       a packet after a sending; the buffer with it
---   Rule, first, rule   which of rules 2 to 7 is the first that applies
---   isLate, late        rule 1: how many packets it drops, none where the front is not late; dropped   its drop
---   earliest            rule 3's choice
---   send, extra, flushed, obey   what rules 2 to 7 do
---   turn, loop, run     one turn, the turns while budget remains, the run
--- Assumes nothing.
-pub mod Laws
+-- Document 01, "Run": "(now, budget p, draining) .. While budget remains, the first that applies". The rules keep
+-- their numbers.
+--   base, wait                        "C = mean + 4 × variance + 20,000"; the time from now to the resend, given the
+--                                     sendings before
+--   stamped, sent                     a packet after a sending; the buffer with that packet
+--   earliest, orHere                  rule 3's choice; the number found, or else this one
+--   Rule, first, rule                 which of rules 2 to 7 is the first that applies
+--   Turn, Result, join                what a turn does, what a run does, and a turn followed by the rest of the run
+--   isLate, late                      rule 1: whether a packet is late, and how many it drops: none where the front is
+--                                     not late
+--   lateFrom, dropped                 how many packets go with the late ones before them; the drop
+--   send, sendNext, extra, flushed, obey   what rules 2 to 7 do
+--   others, turnBy, turn, loop, run   one turn, the turns while budget remains, the run
 use mathlib.Core.Bool.{Bool, true, false, _&&_, cond}
 use mathlib.Core.List.{List, [], _∷_, _++_}
 use mathlib.Core.Option.{Option, none, some}
 use Prim.Native.Nat.{ℕ, zero, suc, _+_, _-_, _*_, _%_, _^_, min}
 use lib.Dec.{ltb, eqb}
 use lib.ListN.{length, set, take}
+use Rattle.rules_numbers.specs.Limits.{transmitMost}
 use Rattle.rules.specs.Numbers.{wire}
 use Rattle.rules.specs.Settings.{Settings, capacity, lateWindow}
 use Rattle.rules.specs.Sender.{Packet, Sender, end, sentOf, packet, pushOf, put, remove, wireSizes}
@@ -33,14 +37,14 @@ stamped now s p = record {
   message = p .message;
   place = p .place;
   len = p .len;
-  count = min 65_535 (p .count + 1);
+  count = min transmitMost (p .count + 1);
   resend = now + wait (base s) (p .count);
 }
 
 unfoldable pub sent : ℕ → Sender → ℕ → List Packet
 sent now s n = set (s .packets) (n - s .front) (stamped now s (packet s n))
 
--- "the earliest resend time strictly before now; ties to the number nearer the front"; n is the number of the first packet
+-- "the earliest resend time strictly before now; ties to the number nearer the front"; n is the first packet's number
 unfoldable pub orHere : ℕ → Option ℕ → Option ℕ
 orHere n none = some n
 orHere n (some m) = some m
@@ -57,7 +61,7 @@ pub data Rule : Type 0 where
   due : ℕ → Rule
   window unsent flush input : Rule
 
--- by the loss list, the packet that is due, whether the flow window is exceeded, whether any is unsent, whether the flush applies
+-- given the loss list, the packet due, and whether the flow window is exceeded, any is unsent, and the flush applies
 unfoldable pub first : List ℕ → Option ℕ → Bool → Bool → Bool → Rule
 first (x ∷ xs) d over more last = loss x xs
 first [] (some n) over more last = due n
@@ -80,7 +84,7 @@ pub record Result : Type 0 where
 abbrev pub join : Turn → Result → Result
 join t r = record { records = t .records ++ r .records; after = r .after; left = r .left }
 
--- "Every send costs one unit, never below 0." b is the budget left; the fuel f only shows that this ends
+-- "Every send costs one unit, never below 0." b is the budget left; the fuel f is there only to show that this ends
 unfoldable pub loop : (Sender → Turn) → ℕ → ℕ → Sender → Result
 loop turn zero b s = record { records = []; after = s; left = b }
 loop turn (suc f) zero s = record { records = []; after = s; left = 0 }
@@ -94,7 +98,7 @@ module _ (c : Settings) (now : ℕ) where
   abbrev pub isLate : Packet → Bool
   isLate p = ltb (p .time + lateWindow c) now
 
-  -- "every packet that is late or of the same message as the latest late one": m is the message of that one
+  -- "every packet that is late or of the same message as the latest late one": m is that one's message
   unfoldable pub lateFrom : ℕ → List Packet → ℕ
   lateFrom m [] = 0
   lateFrom m (p ∷ ps) =
@@ -118,7 +122,7 @@ module _ (c : Settings) (now : ℕ) where
         first (s .lost) (earliest now (s .front) (take (sentOf s) (s .packets))) (ltb (c .flow) (sentOf s)) (ltb (s .next) (end s))
         (draining && eqb (length (s .packets)) 1)
 
-    -- number n is sent, as kind k; next unsent becomes m, the loss list l
+    -- packet n is sent, as kind k; next unsent becomes m, the loss list l
     unfoldable pub send : Kind → ℕ → ℕ → List ℕ → Sender → Turn
     send k n m l s = record {
       records = sendRecord k n (packet s n) ∷ [];
@@ -179,6 +183,6 @@ module _ (c : Settings) (now : ℕ) where
     unfoldable pub turn : Sender → Turn
     turn s = turnBy (late (s .packets)) s
 
-    -- fuel: rule 1 costs nothing and applies at most once, each other turn costs a unit or ends the run
+    -- the fuel suffices: rule 1 costs nothing but applies at most once, any other turn costs a unit or ends the run
     unfoldable pub run : ℕ → Sender → Result
     run p s = loop turn (suc p) p s

@@ -1,30 +1,29 @@
--- What a sender is, between two calls. Numbers count up without wrapping (`Numbers`).
---   Packet, nothing     a buffered packet; what stands where there is none
---   Held                a flushed packet: "A flushed payload is held until the next accepted message."
---   Sender              all that a sender keeps
---   fresh c mode        the sender at its start, before any call
---   end s               one past the back: the number that the next packet gets
---   sentOf s            how many packets are buffered and sent: next unsent less the front
---   packet s n          the packet with number n
---   pushOf s n          n is the number of the how-manieth packet ever pushed, from 0
---   from n, below n     the loss entries from n on; how many entries are below n
---   insert n            n enters the loss list once
---   put, remove         the changes that several rules share
---   wireSizes c ps      "wire bytes .. (payload plus overhead)", of all of ps
--- Assumes nothing.
+-- The state of a sender between two calls. Numbers count up without wrapping (`Numbers`).
+--   Packet, nothing   a buffered packet; the default where there is none
+--   Held              a flushed packet: "A flushed payload is held until the next accepted message."
+--   Sender            everything a sender keeps
+--   fresh c mode      a new sender, before any call
+--   end s             one past the back: the number that the next packet gets
+--   sentOf s          how many buffered packets are sent: next unsent less the front
+--   packet s n        the packet with number n
+--   pushOf s n        the index of packet n among all packets ever pushed, from 0
+--   from n, below n   the loss entries from n on; how many entries are below n
+--   insert n          the loss list with n entered, once
+--   put, remove       changes that several rules share
+--   wireSizes c ps    "wire bytes .. (payload plus overhead)", summed over ps
 use mathlib.Core.List.{List, [], _∷_}
 use mathlib.Core.Option.{Option, none}
 use mathlib.Core.Bool.{cond}
 use Prim.Native.Nat.{ℕ, _+_, _-_, max, suc}
 use lib.Dec.{ltb, eqb}
 use lib.ListN.{length, getD, drop}
-use Rattle.encapsulate.specs.declared.Place.{Place}
-use Rattle.encapsulate.specs.declared.Place.the-variants.{Only}
-use Rattle.rtt.specs.declared.Rtt.{Rtt}
-use Rattle.rtt.specs.Rtt.{start}
-use Rattle.pacing.specs.declared.SenderCongestionControl.{SenderCongestionControl}
-use Rattle.pacing.specs.declared.options.LiveBandwidthMode.{LiveBandwidthMode}
-use Rattle.pacing.specs.Books as Pacing
+use Rattle.rules_packets.specs.declared.Place.{Place}
+use Rattle.rules_packets.specs.declared.Place.the-variants.{Only}
+use Rattle.rules_numbers.specs.declared.Rtt.{Rtt}
+use Rattle.rules_numbers.specs.Rtt.{start}
+use Rattle.rules_pacing.specs.declared.SenderCongestionControl.{SenderCongestionControl}
+use Rattle.rules_pacing.specs.declared.LiveBandwidthMode.{LiveBandwidthMode}
+use Rattle.rules_pacing.specs.Kept as Pacing
 use Rattle.rules.specs.Settings.{Settings}
 
 pub record Packet : Type 0 where
@@ -39,17 +38,17 @@ pub record Packet : Type 0 where
 unfoldable pub nothing : Packet
 nothing = record { time = 0; message = 0; place = Only; len = 0; count = 0; resend = 0 }
 
--- its number, the slot of the store where its payload lies, and the payload's length
+-- its number, the slot of the store that holds its payload, and the payload's length
 pub record Held : Type 0 where
   pub number : ℕ
   pub slot : ℕ
   pub len : ℕ
 
 pub record Sender : Type 0 where
-  -- from the front; number `front + i` is at place i
+  -- from the front: number `front + i` is at index i
   pub packets : List Packet
   pub front : ℕ
-  -- next unsent; it is one past the back where all are sent
+  -- next unsent; one past the back where all are sent
   pub next : ℕ
   pub lost : List ℕ
   pub bytes : ℕ
@@ -102,7 +101,7 @@ unfoldable pub insert : ℕ → List ℕ → List ℕ
 insert n [] = n ∷ []
 insert n (x ∷ xs) = let later = x ∷ insert n xs in cond (ltb n x) (n ∷ x ∷ xs) (cond (eqb n x) (x ∷ xs) later)
 
--- another buffer, front, next unsent, loss list and byte count
+-- s with another buffer, front, next unsent, loss list and byte count
 abbrev pub put : Sender → List Packet → ℕ → ℕ → List ℕ → ℕ → Sender
 put s ps f n l b = record {
   packets = ps;
@@ -118,7 +117,7 @@ put s ps f n l b = record {
   pushed = s .pushed;
 }
 
--- k packets go from the front, from the loss list too, and next unsent moves past them; the byte count becomes b
+-- k packets are removed from the front and from the loss list; next unsent moves past them; the byte count becomes b
 abbrev pub remove : ℕ → ℕ → Sender → Sender
 remove k b s = put s (drop k (s .packets)) (s .front + k) (max (s .next) (s .front + k)) (from (s .front + k) (s .lost)) b
 

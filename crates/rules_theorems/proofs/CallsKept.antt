@@ -1,6 +1,5 @@
--- Every call keeps the book rules, refused ones included, so from a fresh sender they hold after any calls: a fresh sender's own books
--- are never refused 3.
--- Assumes nothing.
+-- Every call keeps the book rules, refused ones included, so they hold after any calls from a fresh sender: its own
+-- books are never refused with 3.
 use mathlib.Core.Path.{_≡_, refl, sym}
 use mathlib.Core.Bool.{false, true}
 use mathlib.Core.List.{List, [], _∷_}
@@ -11,29 +10,29 @@ use lib.Dec.{eqb, leb, ltb}
 use lib.ListN.{length, take}
 use lib.Seq.{drop-nil, take-nil}
 use borrow.Author.Tests.{eqb-true, leb-true, not-false}
-use Rattle.refusals.specs.declared.Refusal.{Refusal}
-use Rattle.refusals.specs.declared.Verdict.the-variants.{Accepted, Refused}
-use Rattle.refusals.specs.Table.{numberOf}
-use Rattle.refusals.specs.Choice.{cond-by}
-use Rattle.rtt.specs.declared.Rtt.{Rtt}
-use Rattle.pacing.specs.declared.options.LiveBandwidthMode.{LiveBandwidthMode}
-use Rattle.pacing.specs.Period.{modeInRange}
+use Rattle.laws.specs.Bools.{and-l, and-r}
+use Rattle.rules_refusals.specs.declared.Refusal.{Refusal}
+use Rattle.rules_refusals.specs.declared.Verdict.the-variants.{Accepted, Refused}
+use Rattle.rules_refusals.specs.Table.{numberOf}
+use Rattle.laws.specs.Choice.{cond-by}
+use Rattle.rules_numbers.specs.declared.Rtt.{Rtt}
+use Rattle.rules_pacing.specs.declared.LiveBandwidthMode.{LiveBandwidthMode}
+use Rattle.rules_pacing.specs.Period.{modeInRange}
 use Rattle.rules.specs.Ack.{ackOf, acknowledge, expect, given, takeRtt}
 use Rattle.rules.specs.Calls.{Answer, Call, ack, after, answer, calls, left, message, nak, payload, runs, verdictOf, withRtt}
 use Rattle.rules.specs.Losses.{Item, report, runsOf, wordsOf, itemsOf}
-use Rattle.rules_theorems.specs.Promises.{AllGiven, Given}
+use Rattle.rules_theorems.specs.Demands.{AllGiven, Given}
 use Rattle.rules.specs.Refusals.{badRtt}
 use Rattle.rules.specs.Sender.{Packet, Sender, fresh, remove, sentOf, wireSizes}
 use Rattle.rules.specs.Settings.{Settings, inRange}
-use Rattle.rules.specs.Books.Laws.{Fields, Kept}
-use Rattle.rules.specs.Calls.Laws.{answer-by}
+use Rattle.rules_theorems.specs.Laws.BookRules.{Fields, Kept}
+use Rattle.rules_theorems.specs.Laws.Calls.{answer-by}
 use Rattle.rules_theorems.proofs.Entering.{enterAll-ascends, runs-inside}
-use Rattle.rules_theorems.proofs.Frame.{and-l, and-r}
 use Rattle.rules_theorems.proofs.MessageKept.{push-kept}
 use Rattle.rules_theorems.proofs.RunKept.{gone-kept, run-kept, same-kept}
 use Rattle.rules_theorems.proofs.Verdicts.{ack-stale, ack-taken, message-taken, run-taken}
-use Rattle.rtt.specs.Rtt as RttOf
-use Rattle.pacing.specs.Books.Laws as PacingLaws
+use Rattle.rules_numbers.specs.Rtt as RttOf
+use Rattle.pacing.specs.Laws.Kept as PacingLaws
 
 module _ (c : Settings) where
   rtt-fields : (rtt : Option Rtt) (s : Sender) → badRtt rtt ≡ false → Fields c (s .rtt) (s .messages) (s .expected) (s .held) (s .pacing)

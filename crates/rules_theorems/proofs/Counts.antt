@@ -1,6 +1,6 @@
--- What the answers count is what went: an ACK's `received` are the packets by which the front moved, `recovered` the entries by which the
--- loss list got shorter; a message's removed packets and wire bytes are those that left. A refusal changes nothing, 11 nothing but the RTT.
--- Assumes nothing.
+-- The counts in the answers are true: an ACK's `received` is how far the front moved, `recovered` is how much shorter
+-- the loss list is, and a message's removed packets and wire bytes are those that left. A refusal changes nothing,
+-- except that 11 keeps a new RTT.
 use mathlib.Core.Path.{_∙_, _≡_, ap, refl, subst, sym}
 use mathlib.Core.Bool.{Bool, false, true}
 use mathlib.Core.List.{List, [], _++_, _∷_, append-assoc, append-nil}
@@ -10,15 +10,15 @@ use native.Mathlib.Omega.{arith}
 use lib.Dec.{leb, ltb}
 use lib.ListN.{length, length-append, length-take, take, take-append-drop}
 use borrow.Author.Tests.{eq-eqb, leb-false, leb-true, ne-eqb}
-use Rattle.refusals.specs.declared.Refusal.{Refusal}
-use Rattle.refusals.specs.declared.Verdict.{Verdict}
-use Rattle.refusals.specs.declared.Verdict.the-variants.{Accepted, Refused}
-use Rattle.refusals.specs.Table.{numberOf}
-use Rattle.refusals.specs.Choice.{cond-by, cond-false, cond-true}
-use Rattle.encapsulate.specs.Split.{count}
-use Rattle.rtt.specs.declared.Rtt.{Rtt}
+use Rattle.rules_refusals.specs.declared.Refusal.{Refusal}
+use Rattle.rules_refusals.specs.declared.Verdict.{Verdict}
+use Rattle.rules_refusals.specs.declared.Verdict.the-variants.{Accepted, Refused}
+use Rattle.rules_refusals.specs.Table.{numberOf}
+use Rattle.laws.specs.Choice.{cond-by, cond-false, cond-true}
+use Rattle.rules_packets.specs.Split.{count}
+use Rattle.rules_numbers.specs.declared.Rtt.{Rtt}
 use Rattle.rules.specs.Ack.{ackOf, acknowledge, received, recovered, takeRtt}
-use Rattle.rules.specs.Books.{all}
+use Rattle.rules.specs.BookRules.{all}
 use Rattle.rules.specs.Calls.{Acked, Answer, Call, Nothing, Pushed, ack, after, answer, answerBy, left, message, pushedBy, saidBy, storeAfter, storeBy, verdictOf, withRtt}
 use Rattle.rules.specs.Losses.{before}
 use Rattle.rules.specs.Message.{append, begin, gone, goneBy, makeRoom, packetsOf, periodOf, push, pushAll}
@@ -26,15 +26,15 @@ use Rattle.rules.specs.Numbers.{wire}
 use Rattle.rules.specs.Refusals.{countIsFull}
 use Rattle.rules.specs.Sender.{Packet, Sender, below, from, wireSizes}
 use Rattle.rules.specs.Settings.{Settings, capacity}
-use Rattle.rules.specs.Books.Laws.{All, Kept, Unsent}
-use Rattle.rules.specs.Calls.Laws.{answer-taken, answer-verdict}
-use Rattle.rules.specs.Numbers.Laws.{wire-distance}
-use Rattle.rules.specs.Run.Laws.{two}
+use Rattle.rules_theorems.specs.Laws.BookRules.{All, Kept, Unsent}
+use Rattle.rules_theorems.specs.Laws.Calls.{answer-taken, answer-verdict}
+use Rattle.rules_theorems.specs.Laws.Numbers.{wire-distance}
+use Rattle.rules_theorems.specs.Laws.Run.{two}
 use Rattle.rules_theorems.proofs.CallsKept.{size-least}
 use Rattle.rules_theorems.proofs.MessageKept.{append-kept, begin-kept, packets-unsent, room-fits, room-kept, sizes-message}
 use Rattle.rules_theorems.proofs.Packets.{sizes-append, sizes-drop}
 use Rattle.rules_theorems.proofs.Verdicts.{ack-taken, message-taken, or-false}
-use Rattle.pacing.specs.Pacing as PacingIn
+use Rattle.rules_pacing.specs.Pacing as PacingIn
 
 below-length : (n : ℕ) (xs : List ℕ) → below n xs + length (from n xs) ≡ length xs
 unfolding below from
@@ -94,7 +94,7 @@ module _ (c : Settings) where
       go true e = rw (e, makeRoom, gone) (omega (arith, sizes-drop c 1 (s .packets), g .covers))
       go false e = rw (e, makeRoom, gone) (omega arith)
 
-  -- the packets that went stood in front, those that were pushed stand behind
+  -- the packets removed were in front, those pushed are behind
   room-packets : (s : Sender) → gone c s ++ makeRoom c s .packets ≡ s .packets
   unfolding makeRoom gone
   room-packets s = go (leb (capacity c) (length (s .packets))) refl
@@ -159,7 +159,7 @@ module _ (c : Settings) where
         queued = record { packets = q .packets; front = q .front; bytes = q .bytes; pushed = q .pushed };
       })
 
-  -- a refusal answers nothing, writes no byte of the store, and leaves the sender as it was; 11 keeps the RTT that the ACK brought
+  -- a refusal answers nothing, writes no byte of the store, and leaves the sender unchanged; 11 keeps the ACK's RTT
   pub record Refusing (k : Call) (s : Sender) (before : List ℕ) (r : Refusal) : Type 0 where
     pub said : answer c k s .said ≡ Nothing
     pub store : storeAfter c k s before ≡ before

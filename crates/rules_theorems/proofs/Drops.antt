@@ -1,6 +1,6 @@
--- The late drop: it happens at most once in a run and first, exactly where the front is late, and takes no packet that is neither late nor
--- of the message of the last late one before it. Full times are compared, so no rollover of the stamp matters.
--- Assumes nothing.
+-- The late drop: it happens at most once in a run, first, and exactly if the front is late; it removes only packets
+-- that are late or of the same message as the last late one before them. Full times are compared, so no rollover of the
+-- stamp matters.
 use mathlib.Core.Path.{_≡_, ap, refl}
 use mathlib.Core.Bool.{Bool, _&&_, false, true}
 use mathlib.Core.List.{List, [], _++_, _∷_}
@@ -15,8 +15,8 @@ use Rattle.rules.specs.Records.{Action, Send, dropRecord, sendRecord, sends, wa
 use Rattle.rules.specs.Run.{Result, Rule, Turn, dropped, due, extra, flush, input, isLate, late, lateFrom, loop, loss, obey, others, rule, run, send, unsent, window}
 use Rattle.rules.specs.Sender.{Packet, Sender, end, nothing}
 use Rattle.rules.specs.Settings.{Settings, lateWindow}
-use Rattle.rules_theorems.specs.Promises.Drops.{Overdue, drops, following, itself}
-use Rattle.rules.specs.Run.Laws.{split, sweep, turns}
+use Rattle.rules_theorems.specs.Demands.Drops.{Overdue, drops, following, itself}
+use Rattle.rules_theorems.specs.Laws.Run.{split, sweep, turns}
 use Rattle.rules_theorems.proofs.Split.{loop-end, loop-on, run-is}
 
 pub drops-append : (rs qs : List Action) → drops (rs ++ qs) ≡ drops rs + drops qs
@@ -32,7 +32,7 @@ module _ (c : Settings) (now : ℕ) where
       go true e = rw (e, late) (λ h. ltb-true _ _ e, λ h. omega arith)
       go false e = rw (e, late) (λ h. absurd (omega arith), λ h. absurd (omega (arith, ltb-false (q .time + lateWindow c) now e)))
 
-  -- as `Overdue`, or of message m with none late before
+  -- `Overdue`, or of message m with none late before
   data Fits (m : ℕ) (ps : List Packet) (i : ℕ) : Type 0 where
     taken : Overdue c now ps i → Fits m ps i
     alike : ((k : ℕ) → k ≤ i → now ≤ getD ps k nothing .time + lateWindow c) → getD ps i nothing .message ≡ m → Fits m ps i
@@ -55,7 +55,7 @@ module _ (c : Settings) (now : ℕ) where
       past zero a b = absurd (omega arith)
       past (suc m) a b = k m (omega arith)
 
-  -- p is not late and of message m too
+  -- p is not late, but of message m too
   beside : (m : ℕ) (p : Packet) (ps : List Packet) (i : ℕ) → now ≤ p .time + lateWindow c → Fits m ps i → Fits m (p ∷ ps) (suc i)
   beside m p ps i h (taken o) = taken (shift p ps i o)
   beside m p ps i h (alike k e) = alike (λ j l. at j l) e
@@ -134,7 +134,7 @@ module _ (c : Settings) (now : ℕ) where
         go true e ih = rw (loop-end (others c now draining) f b s e) (obey-drops (rule c now draining s) s)
         go false e ih = rw (loop-on (others c now draining) f b s e, drops-append) (omega (arith, obey-drops (rule c now draining s) s))
 
-    -- a run with a budget is the late drop, and then records without one
+    -- a run with a budget is the late drop, followed by records without one
     pub run-drops : (p : ℕ) (s : Sender)
         → (rest : List Action) × (run c now draining (suc p) s .records ≡ dropped c now (late c now (s .packets)) s .records ++ rest)
         × (drops rest ≡ 0)

@@ -1,5 +1,5 @@
--- Entering numbers into the loss list. What is Added lies between the front and next unsent, so the list still ascends there.
--- Assumes nothing.
+-- Entering numbers into the loss list. Added numbers lie between the front and next unsent, so the list still ascends
+-- there.
 use mathlib.Core.Path.{_≡_, ap, refl}
 use mathlib.Core.Bool.{Bool, false, true}
 use mathlib.Core.List.{List, [], _++_, _∷_}
@@ -7,21 +7,21 @@ use Prim.Native.Nat.{_+_, _-_, _<_, _≤_, min, suc, zero, ℕ}
 use native.Mathlib.Omega.{arith}
 use lib.Dec.{ltb}
 use borrow.Author.Tests.{ltb-true}
+use Rattle.laws.specs.Ascending.{Ascends}
 use Rattle.rules.specs.Losses.{Added, Dropped, Ignored, Item, LossKind, LossRun, enterAll, enterBy, entered, itemRuns, kindBy, kindOf, reach, reachBy, runsOf, stretch}
 use Rattle.rules.specs.Numbers.{distance, wire}
-use Rattle.rules_theorems.specs.Promises.{On}
+use Rattle.rules_theorems.specs.Demands.{On}
 use Rattle.rules.specs.Sender.{Sender, insert, sentOf}
-use Rattle.rules.specs.Books.Laws.{Ascends}
-use Rattle.rules_theorems.specs.Promises.Losses.{AllRuns}
+use Rattle.rules_theorems.specs.Demands.Losses.{AllRuns}
 use Rattle.rules_theorems.proofs.Lists.{insert-ascends, on-insert}
 
-pub added-near : (a b : Bool) → kindBy a b ≡ Added → a ≡ true
+added-near : (a b : Bool) → kindBy a b ≡ Added → a ≡ true
 unfolding kindBy
 added-near true b e = refl
 added-near false true e = cc
 added-near false false e = cc
 
--- where the run's numbers are Added they lie before next unsent
+-- Added numbers of the run lie before next unsent
 abbrev pub Inside : Sender → LossRun → Type 0
 Inside s r = r .kind ≡ Added → distance (wire (s .front)) (r .first) + r .count ≤ sentOf s
 
@@ -29,7 +29,7 @@ pub all-runs-append : (P : LossRun → Type 0) (rs qs : List LossRun) → AllRun
 all-runs-append P [] qs a b = b
 all-runs-append P (r ∷ rs) qs a b = (a .0, all-runs-append P rs qs (a .1) b)
 
-reach-added : (s : Sender) (m n : ℕ) → kindOf s m ≡ Added → distance (wire (s .front)) m + min n (reach s m) ≤ sentOf s
+pub reach-added : (s : Sender) (m n : ℕ) → kindOf s m ≡ Added → distance (wire (s .front)) m + min n (reach s m) ≤ sentOf s
 unfolding kindOf reach reachBy
 reach-added s m n e =
     let near : distance (wire (s .front)) m < sentOf s = ltb-true _ _ (added-near (ltb (distance (wire (s .front)) m) (sentOf s)) _ e) in
@@ -48,7 +48,7 @@ unfolding runsOf itemRuns
 runs-inside s [] = tt
 runs-inside s (i ∷ is) = all-runs-append (Inside s) (itemRuns s i) (runsOf s is) (stretch-inside s 3 (i .first) _) (runs-inside s is)
 
-entered-ascends : (lo hi n k : ℕ) (xs : List ℕ) → lo ≤ n → n + k ≤ hi → Ascends lo hi xs → Ascends lo hi (entered n k xs)
+pub entered-ascends : (lo hi n k : ℕ) (xs : List ℕ) → lo ≤ n → n + k ≤ hi → Ascends lo hi xs → Ascends lo hi (entered n k xs)
 unfolding entered
 entered-ascends lo hi n zero xs p q a = a
 entered-ascends lo hi n (suc k) xs p q a =
@@ -70,7 +70,7 @@ enterAll-ascends s (r ∷ rs) xs h i a =
     (enter-ascends s (r .kind) (s .front + distance (wire (s .front)) (r .first)) (r .count) xs h (omega arith)
     (λ e. omega (arith, i .0 e)) a)
 
--- a number that is on the list stays there
+-- a number on the list stays there
 pub entered-on : (m n k : ℕ) (xs : List ℕ) → On m xs → On m (entered n k xs)
 unfolding entered
 entered-on m n zero xs o = o

@@ -1,6 +1,6 @@
--- Every turn of a run keeps the frame: next unsent lies between the front and one past the back, the loss list ascends between the front
--- and next unsent. `rule-applies` says what holds where a rule is the first that applies; each rule is then looked at by itself.
--- Assumes nothing.
+-- Every turn of a run keeps the frame: next unsent lies between the front and one past the back, the loss list ascends
+-- between the front and next unsent. `rule-applies` says what holds if a rule is the first that applies; each rule is
+-- then treated by itself.
 use mathlib.Core.Path.{_∙_, _≡_, refl, sym}
 use mathlib.Core.Bool.{Bool, _&&_, false, true, true≢false}
 use mathlib.Core.List.{List, [], _∷_}
@@ -10,14 +10,16 @@ use native.Mathlib.Omega.{arith}
 use lib.Dec.{eqb, ltb}
 use lib.ListN.{length, length-drop, length-set, take}
 use borrow.Author.Tests.{eq-eqb, eqb-true, ltb-false, ltb-true}
+use Rattle.laws.specs.Ascending.{Ascends, widen}
+use Rattle.laws.specs.Bools.{and-l, and-r, and-both}
 use Rattle.rules.specs.Numbers.{wire}
 use Rattle.rules.specs.Records.{ByLoss, ByTime, Kind, Send, sends}
 use Rattle.rules.specs.Run.{Rule, Turn, dropped, due, extra, first, flush, flushed, input, isLate, late, lateFrom, loop, loss, obey, others, rule, send, sent, unsent, window}
 use Rattle.rules.specs.Sender.{Packet, Sender, end, from, remove, sentOf, wireSizes}
 use Rattle.rules.specs.Settings.{Settings}
-use Rattle.rules.specs.Books.Laws.{Ascends, Good}
-use Rattle.rules.specs.Run.Laws.{Applies, isDue, turns}
-use Rattle.rules_theorems.proofs.Lists.{from-ascends, widen}
+use Rattle.rules_theorems.specs.Laws.BookRules.{Good}
+use Rattle.rules_theorems.specs.Laws.Run.{Applies, isDue, turns}
+use Rattle.rules_theorems.proofs.Lists.{from-ascends}
 
 pub remove-good : (k b : ℕ) (s : Sender) → k ≤ length (s .packets) → Good s → Good (remove k b s)
 remove-good k b s h g = record {
@@ -27,18 +29,6 @@ remove-good k b s h g = record {
       widen (from (s .front + k) (s .lost)) (omega arith) (omega arith)
       (from-ascends (s .front) (s .next) (s .front + k) (s .lost) (g .lost));
 }
-
-pub and-l : (a b : Bool) → (a && b) ≡ true → a ≡ true
-and-l true b e = refl
-and-l false b e = e
-
-pub and-r : (a b : Bool) → (a && b) ≡ true → b ≡ true
-and-r true b e = e
-and-r false b e = cc
-
-pub and-both : (a b : Bool) → a ≡ true → b ≡ true → (a && b) ≡ true
-and-both true b p q = q
-and-both false b p q = p
 
 module _ (c : Settings) (now : ℕ) where
   pub sent-length : (s : Sender) (n : ℕ) → length (sent now s n) ≡ length (s .packets)

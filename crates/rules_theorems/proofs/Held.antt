@@ -1,6 +1,6 @@
--- After any calls from a fresh sender the store holds the payload of every buffered packet as it was pushed. Only a message writes; what it
--- writes are its own packets (`written-in`) and no slot of a packet that is still buffered, since at most the capacity are (`written-out`).
--- Assumes nothing.
+-- After any calls from a fresh sender the store holds the payload of every buffered packet as it was pushed. Only a
+-- message writes: it writes its own packets (`written-in`) and no slot of a packet still buffered, since at most the
+-- capacity are buffered (`written-out`).
 use mathlib.Core.Path.{_∙_, _≡_, ap, refl, subst, sym}
 use mathlib.Core.Bool.{Bool, false, true}
 use mathlib.Core.List.{List, [], _++_, _∷_, append-assoc, append-nil}
@@ -10,21 +10,21 @@ use lib.Dec.{ltb}
 use lib.ListN.{List·getD-append, drop, getD, length, length-append, length-drop, length-take, take}
 use lib.Seq.{getD-append-add, getD-drop, getD-take}
 use borrow.Author.Tests.{ltb-false, ltb-true}
-use Rattle.refusals.specs.declared.Refusal.{Refusal}
-use Rattle.refusals.specs.declared.Verdict.{Verdict}
-use Rattle.refusals.specs.declared.Verdict.the-variants.{Accepted, Refused}
-use Rattle.encapsulate.specs.Split.{count, lengthOf, startOf}
-use Rattle.pacing.specs.declared.options.LiveBandwidthMode.{LiveBandwidthMode}
+use Rattle.rules_refusals.specs.declared.Refusal.{Refusal}
+use Rattle.rules_refusals.specs.declared.Verdict.{Verdict}
+use Rattle.rules_refusals.specs.declared.Verdict.the-variants.{Accepted, Refused}
+use Rattle.rules_packets.specs.Split.{count, lengthOf, startOf}
+use Rattle.rules_pacing.specs.declared.LiveBandwidthMode.{LiveBandwidthMode}
 use Rattle.rules.specs.Ack.{ackOf}
 use Rattle.rules.specs.Calls.{Answer, Call, ack, after, answer, answerBy, calls, left, message, nak, payload, runs, storeAfter, storeBy, stores, verdictOf}
 use Rattle.rules.specs.Losses.{wordsOf, itemsOf}
 use Rattle.rules.specs.Message.{packetOf, packetsFrom, packetsOf, stored, written}
-use Rattle.rules_theorems.specs.Promises.{AllGiven, Given}
+use Rattle.rules_theorems.specs.Demands.{AllGiven, Given}
 use Rattle.rules.specs.Sender.{Packet, Sender, end, fresh, nothing, packet, sentOf}
 use Rattle.rules.specs.Settings.{Settings, capacity, placeOf, storeSize}
-use Rattle.rules.specs.Books.Laws.{Kept, Unsent}
-use Rattle.rules.specs.Calls.Laws.{answer-taken, answer-verdict}
-use Rattle.rules_theorems.specs.Promises.Store.{Holds, cuts, payloads, payloadsBy}
+use Rattle.rules_theorems.specs.Laws.BookRules.{Kept, Unsent}
+use Rattle.rules_theorems.specs.Laws.Calls.{answer-taken, answer-verdict}
+use Rattle.rules_theorems.specs.Demands.Store.{Holds, cuts, payloads, payloadsBy}
 use Rattle.rules_theorems.proofs.CallsKept.{answer-kept}
 use Rattle.rules_theorems.proofs.Counts.{Queued, message-counts}
 use Rattle.rules_theorems.proofs.Packets.{all-at}
@@ -96,7 +96,7 @@ module _ (c : Settings) where
           let l = simp length-append at (ap length (q .packets)) in
           omega (arith, q .front, l, packets-length c time (s .messages) (length bytes) 0 made)
 
-      -- where a packet of the buffer stood in the old buffer with the new packets behind it
+      -- where a buffered packet was in the old buffer with the new packets behind it
       stood : (n : ℕ) → t .front ≤ n
           → packet t n ≡ getD (s .packets ++ packetsOf c time (s .messages) (length bytes)) (n - s .front) nothing
       unfolding packet

@@ -1,6 +1,6 @@
--- The answer to a loss report once its runs are made: an item gives at most three, and runs that meet are joined, also across items. What is
--- joined names the same numbers, each run still of one kind, and none goes on into the next.
--- Assumes nothing.
+-- The answer to a loss report from its runs: an item has at most three, and runs that continue each other are joined,
+-- also across items. The joined runs name the same numbers, each is still of one kind, and none continues into the
+-- next.
 use mathlib.Core.Path.{_∙_, _≡_, ap, refl, sym}
 use mathlib.Core.Bool.{_&&_, true}
 use mathlib.Core.List.{List, [], _++_, _∷_, append-assoc}
@@ -9,12 +9,12 @@ use native.Mathlib.Omega.{arith}
 use lib.Dec.{eqb}
 use lib.ListN.{length, length-append}
 use borrow.Author.Tests.{eqb-true}
-use Rattle.refusals.specs.Choice.{cond-by}
+use Rattle.laws.specs.Bools.{and-l, and-r}
+use Rattle.laws.specs.Choice.{cond-by}
 use Rattle.rules.specs.Losses.{Added, Dropped, Ignored, Item, LossKind, LossRun, endOf, glue, itemRuns, joined, meets, reach, runsOf, sameKind, stretch}
 use Rattle.rules.specs.Numbers.{distance, wire}
 use Rattle.rules.specs.Sender.{Sender}
-use Rattle.rules_theorems.specs.Promises.Losses.{AllOf, AllRuns, Maximal, OneKind, answered, upFrom}
-use Rattle.rules_theorems.proofs.Frame.{and-l, and-r}
+use Rattle.rules_theorems.specs.Demands.Losses.{AllOf, AllRuns, Maximal, OneKind, answered, upFrom}
 
 stretch-three : (s : Sender) (f m n : ℕ) → length (stretch s f m n) ≤ f
 unfolding stretch
@@ -68,7 +68,7 @@ meets-kind r q e = same-kind (r .kind) (q .kind) (and-l (sameKind (r .kind) (q .
 meets-end : (r q : LossRun) → meets r q ≡ true → endOf r ≡ q .first
 meets-end r q e = eqb-true _ _ (and-r (sameKind (r .kind) (q .kind)) (eqb (endOf r) (q .first)) e)
 
--- two runs that meet end where the second one ends, and are of its kind
+-- two joined runs end where the second one ends, and are of its kind
 both-meets : (r q x : LossRun) → meets r q ≡ true → meets (both r q) x ≡ meets q x
 both-meets r q x e =
     let k = meets-kind r q e in

@@ -1,6 +1,5 @@
--- What moves with the times: moving every time and `now` by the same amount moves each packet's times and each record's, and no comparison,
--- since both its sides move. For lateness, the earliest resend, a packet sent, a record.
--- Assumes nothing.
+-- Moving every time and `now` by the same amount moves the times of each packet and record, but changes no comparison,
+-- since both sides move. Here for lateness, the earliest resend, a packet sent, a record.
 use mathlib.Core.Path.{_∙_, _≡_, ap, refl}
 use mathlib.Core.Bool.{Bool, false, true}
 use mathlib.Core.List.{List, [], _++_, _∷_, map}
@@ -9,13 +8,14 @@ use native.Mathlib.Omega.{arith}
 use lib.Dec.{eqb, ltb}
 use lib.ListN.{drop, getD, length, set, take}
 use borrow.Author.Tests.{le-ltb, lt-ltb, ltb-false, ltb-true}
-use Rattle.refusals.specs.Choice.{cond-by}
+use Rattle.laws.specs.Lists.{map-set, map-drop, map-take}
+use Rattle.laws.specs.Choice.{cond-by}
 use Rattle.rules.specs.Records.{Action, ByLoss, ByTime, Drop, Kind, Send, WaitAck, WaitInput, isSend, sendRecord, sends}
 use Rattle.rules.specs.Run.{base, earliest, isLate, late, lateFrom, sent, stamped, wait}
 use Rattle.rules.specs.Sender.{Packet, Sender, nothing, packet, wireSizes}
 use Rattle.rules.specs.Settings.{Settings, lateWindow}
-use Rattle.rules.specs.Books.Laws.{All, Sent}
-use Rattle.rules_theorems.specs.Promises.Times.{later, laterAction, laterPacket, resendLater}
+use Rattle.rules_theorems.specs.Laws.BookRules.{All, Sent}
+use Rattle.rules_theorems.specs.Demands.Times.{later, laterAction, laterPacket, resendLater}
 
 ltb-later : (a b d : ℕ) → ltb (a + d) (b + d) ≡ ltb a b
 ltb-later a b d = go (ltb a b) refl
@@ -23,21 +23,6 @@ ltb-later a b d = go (ltb a b) refl
     go : (t : Bool) → ltb a b ≡ t → ltb (a + d) (b + d) ≡ ltb a b
     go true e = let h : a < b = ltb-true _ _ e in rw e (lt-ltb (a + d) (b + d) (omega arith))
     go false e = let h : b ≤ a = ltb-false _ _ e in rw e (le-ltb (a + d) (b + d) (omega arith))
-
-pub map-drop : (f : Packet → Packet) (k : ℕ) (ps : List Packet) → drop k (map f ps) ≡ map f (drop k ps)
-map-drop f zero ps = refl
-map-drop f (suc k) [] = refl
-map-drop f (suc k) (p ∷ ps) = map-drop f k ps
-
-pub map-take : (f : Packet → Packet) (k : ℕ) (ps : List Packet) → take k (map f ps) ≡ map f (take k ps)
-map-take f zero ps = refl
-map-take f (suc k) [] = refl
-map-take f (suc k) (p ∷ ps) = ap (λ (l : List Packet). f p ∷ l) (map-take f k ps)
-
-map-set : (f : Packet → Packet) (ps : List Packet) (i : ℕ) (x : Packet) → set (map f ps) i (f x) ≡ map f (set ps i x)
-map-set f [] i x = refl
-map-set f (p ∷ ps) zero x = refl
-map-set f (p ∷ ps) (suc i) x = ap (λ (l : List Packet). f p ∷ l) (map-set f ps i x)
 
 map-at : (f : Packet → Packet) (ps : List Packet) (i : ℕ) → i < length ps → getD (map f ps) i nothing ≡ f (getD ps i nothing)
 map-at f [] i h = absurd (omega arith)
@@ -120,10 +105,6 @@ module _ (c : Settings) (d now : ℕ) where
   pub sends-later : (rs : List Action) → sends (map (laterAction d) rs) ≡ sends rs
   sends-later [] = refl
   sends-later (a ∷ rs) = omega (arith, kind-later a, sends-later rs)
-
-  pub map-append : (rs qs : List Action) → map (laterAction d) (rs ++ qs) ≡ map (laterAction d) rs ++ map (laterAction d) qs
-  map-append [] qs = refl
-  map-append (a ∷ rs) qs = ap (λ (l : List Action). laterAction d a ∷ l) (map-append rs qs)
 
   pub sizes-later : (ps : List Packet) → wireSizes c (map (laterPacket d) ps) ≡ wireSizes c ps
   unfolding wireSizes laterPacket

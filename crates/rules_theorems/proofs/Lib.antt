@@ -23,4 +23,3 @@ pub mod Store
 pub mod Held
 pub mod Reported
 pub mod Theorems
-pub mod Scripts

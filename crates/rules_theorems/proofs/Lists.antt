@@ -1,6 +1,5 @@
--- The loss list: what `from` and `insert` leave in order, and where a number on it lies.
--- A list that ascends between two numbers does so still when entries below a number go and when a number enters. By induction on the list.
--- Assumes nothing.
+-- The loss list: `from` and `insert` keep it in order, and where a number on it lies. A list that ascends between two
+-- numbers still does when entries below a number go, and when a number enters. By induction on the list.
 use mathlib.Core.Path.{_≡_, refl}
 use mathlib.Core.Bool.{Bool, false, true}
 use mathlib.Core.List.{List, [], _∷_}
@@ -9,13 +8,9 @@ use Prim.Native.Nat.{_<_, _≤_, max, suc, ℕ}
 use native.Mathlib.Omega.{arith}
 use lib.Dec.{eqb, ltb}
 use borrow.Author.Tests.{eqb-false, lt-ltb, ltb-false, ltb-true}
-use Rattle.rules_theorems.specs.Promises.{On}
+use Rattle.laws.specs.Ascending.{Ascends, widen}
+use Rattle.rules_theorems.specs.Demands.{On}
 use Rattle.rules.specs.Sender.{below, from, insert}
-use Rattle.rules.specs.Books.Laws.{Ascends}
-
-pub widen : {lo hi lo′ hi′ : ℕ} (xs : List ℕ) → lo′ ≤ lo → hi ≤ hi′ → Ascends lo hi xs → Ascends lo′ hi′ xs
-widen [] p q h = tt
-widen (x ∷ xs) p q h = (omega arith, omega arith, widen xs (omega arith) q (h .2))
 
 pub from-ascends : (lo hi n : ℕ) (xs : List ℕ) → Ascends lo hi xs → Ascends (max lo n) hi (from n xs)
 unfolding from
@@ -83,12 +78,12 @@ on-insert n m (x ∷ xs) o = go (ltb m x) refl (eqb m x) refl o (λ o′. on-ins
     go false e false f (inr o) ih = rw (e, f, insert) (inr (ih o))
 on-insert n m [] o = absurd o
 
--- n comes after the head of an ascending list: it has one smaller there
+-- n comes after the head of an ascending list, so there is one more below it
 pub below-head : (n x lo hi : ℕ) (xs : List ℕ) → Ascends lo hi (x ∷ xs) → On n xs → below n (x ∷ xs) ≡ suc (below n xs)
 unfolding below
 below-head n x lo hi xs a o = rw (lt-ltb x n (on-above n (suc x) hi xs (a .2) o), below)
 
--- where y is on the list and below n, the entries past y have one fewer below n
+-- if y is on the list and below n, the entries past y have one fewer below n
 below-past : (n y : ℕ) (xs : List ℕ) → y < n → On y xs → suc (below n (from (suc y) xs)) ≤ below n xs
 unfolding below from
 below-past n y (x ∷ xs) h (inl e) =
@@ -105,7 +100,7 @@ below-past n y (x ∷ xs) h (inr o) = go (ltb x (suc y)) refl (ltb x n) refl (be
     go false e false f ih = rw (e, f, from, below) ih
 below-past n y [] h o = absurd o
 
--- a list in order whose entries below n are all on another has no more of them
+-- an ascending list whose entries below n are all on another list has no more of them
 pub below-subset : (n lo hi : ℕ) (ys xs : List ℕ) → Ascends lo hi ys → ((m : ℕ) → m < n → On m ys → On m xs) → below n ys ≤ below n xs
 unfolding below
 below-subset n lo hi [] xs a h = omega arith

@@ -1,7 +1,7 @@
--- The runs of a loss report, made by the ends of ranges: they name exactly the numbers reported, in order, and each is of one kind.
--- Seen from the front the numbers of 31 bits lie in three zones: Added up to next unsent, Ignored for 2^30 more, then Dropped. `reach` is the
--- way to the end of a number's zone, and a range of at most 2^30 numbers meets at most three zones. How they are joined is in Joined.
--- Assumes nothing.
+-- The runs of a loss report, found from the ends of ranges: they name exactly the numbers reported, in order, and each
+-- is of one kind. Seen from the front, the 31-bit numbers lie in three zones: Added up to next unsent, Ignored for 2^30
+-- more, then Dropped. `reach` is the distance to the end of a number's zone, and a range of at most 2^30 numbers meets
+-- at most three zones. Joined has the joining.
 use mathlib.Core.Path.{_∙_, _≡_, ap, refl, subst, sym}
 use mathlib.Core.Bool.{Bool, false, true}
 use mathlib.Core.List.{List, [], _++_, _∷_}
@@ -10,14 +10,14 @@ use native.Mathlib.Omega.{arith}
 use lib.Dec.{leb, ltb}
 use lib.ListN.{length}
 use borrow.Author.Tests.{le-ltb, leb-false, leb-true, lt-ltb, ltb-false, ltb-true}
+use Rattle.laws.specs.Bools.{and-r}
 use Rattle.rules.specs.Losses.{Added, Dropped, Ignored, Item, LossKind, Words, bad, before, isRange, itemRuns, items, joined, kindBy, kindOf, parse, reach, reachBy, runsOf, stretch, wordsOf}
 use Rattle.rules.specs.Numbers.{distance, wire}
 use Rattle.rules.specs.Sender.{Sender, sentOf}
-use Rattle.rules.specs.Books.Laws.{Good}
-use Rattle.rules.specs.Numbers.Laws.{distance-below, distance-wire, wire-below, wire-distance}
-use Rattle.rules_theorems.specs.Promises.Losses.{AllOf, AllRuns, AllWords, Fine, OneKind, answered, reported, upFrom}
+use Rattle.rules_theorems.specs.Laws.BookRules.{Good}
+use Rattle.rules_theorems.specs.Laws.Numbers.{distance-below, distance-wire, wire-below, wire-distance}
+use Rattle.rules_theorems.specs.Demands.Losses.{AllOf, AllRuns, AllWords, Fine, OneKind, answered, reported, upFrom}
 use Rattle.rules_theorems.proofs.Entering.{all-runs-append}
-use Rattle.rules_theorems.proofs.Frame.{and-r}
 use Rattle.rules_theorems.proofs.Joined.{answered-append, joined-answered, joined-kinds, up-append}
 
 module _ (s : Sender) (g : Good s) (short : sentOf s < 2 ^ 30) where

@@ -1,6 +1,6 @@
--- A message keeps the book rules: its packets are unsent and no longer than a packet, their wire sizes are the message's bytes and the
--- overhead of each, removal from the front keeps the rules, and so does a push where there is room.
--- Assumes nothing.
+-- A message keeps the book rules: its packets are unsent and no longer than a packet, their wire sizes are the
+-- message's bytes and the overhead of each, removal from the front keeps the rules, and so does a push if there is
+-- room.
 use mathlib.Core.Path.{_≡_, ap, refl}
 use mathlib.Core.Bool.{Bool, false, true}
 use mathlib.Mathlib.Data.Bool.Basic.{or-eq-false-eq-eq-false-and-eq-false as neither}
@@ -13,21 +13,21 @@ use lib.Dec.{leb, lit<}
 use lib.ListN.{drop, length, length-append, length-drop}
 use lib.Seq.{drop-append-le, take-append-le}
 use borrow.Author.Tests.{leb-false, leb-true}
-use Rattle.encapsulate.specs.Split.{count}
-use Rattle.encapsulate.specs.Split.Laws.{length-last}
+use Rattle.rules_packets.specs.Split.{count}
+use Rattle.encapsulate.specs.Laws.{length-last}
 use Rattle.rules.specs.Message.{append, begin, makeRoom, packetOf, packetsFrom, packetsOf, push, pushAll}
 use Rattle.rules.specs.Refusals.{countIsFull}
 use Rattle.rules.specs.Sender.{Packet, Sender, sentOf, wireSizes}
 use Rattle.rules.specs.Settings.{Settings, capacity}
-use Rattle.rules.specs.Books.Laws.{All, Fields, Kept, Unsent}
-use Rattle.rules.specs.Run.Laws.{two}
+use Rattle.rules_theorems.specs.Laws.BookRules.{All, Fields, Kept, Unsent}
+use Rattle.rules_theorems.specs.Laws.Run.{two}
 use Rattle.rules_theorems.proofs.Packets.{all-snoc, sizes-append}
 use Rattle.rules_theorems.proofs.RunKept.{gone-kept, same-kept}
-use Rattle.pacing.specs.declared.SenderCongestionControl.{SenderCongestionControl}
-use Rattle.pacing.specs.Books as PacingBooks
-use Rattle.pacing.specs.Pacing as PacingIn
-use Rattle.pacing.specs.Books.Laws as PacingLaws
-use Rattle.pacing.specs.Pacing.Laws as PacingInLaws
+use Rattle.rules_pacing.specs.declared.SenderCongestionControl.{SenderCongestionControl}
+use Rattle.rules_pacing.specs.Kept as PacingBooks
+use Rattle.rules_pacing.specs.Pacing as PacingIn
+use Rattle.pacing.specs.Laws.Kept as PacingLaws
+use Rattle.pacing.specs.Laws.Pacing as PacingInLaws
 
 count-least : (size len : ℕ) → 1 ≤ count size len
 unfolding count
@@ -41,7 +41,7 @@ module _ (c : Settings) where
     packets-unsent k (suc n) =
         (record { time = early; message = few; len = omega arith; never = refl; unset = refl }, packets-unsent (suc k) n)
 
-  -- what the packets from packet k on weigh: the bytes of the message that they hold, and the overhead of each
+  -- the wire sizes of the packets from packet k on: their bytes of the message, and the overhead of each
   sizes-from : (t m len k n : ℕ)
       → wireSizes c (packetsFrom c t m len k n) + (len - (k + n) * c .size) ≡ (len - k * c .size) + n * c .overhead
   unfolding packetsFrom packetOf wireSizes
@@ -107,7 +107,7 @@ module _ (c : Settings) where
       pushAll-kept ps (append c p (makeRoom c s)) (f .1) (omega (arith, r .1))
       (append-kept p (makeRoom c s) (f .0) (room-fits s g) (omega (arith, r .1)) (r .0))
 
-  -- the fields once a message has its number, whatever pacing is
+  -- the fields once a message has its number, whatever its pacing
   pub numbered-fields : (s : Sender) (p : SenderCongestionControl) → PacingBooks.kept p ≡ true → Kept c s
       → Fields c (s .rtt) ((s .messages + 1) % 2 ^ 26) (s .expected) none p
   numbered-fields s p e g = record {

@@ -1,5 +1,5 @@
--- When a run sends nothing: what the earliest resend time tells, and the rule that applies where nothing is to be sent.
--- Assumes nothing.
+-- When a run sends nothing: what follows from the earliest resend time, and which rule applies if nothing is to be
+-- sent.
 use mathlib.Core.Path.{_≡_, refl}
 use mathlib.Core.Bool.{Bool, false, true}
 use mathlib.Core.List.{List, [], _∷_}
@@ -11,13 +11,13 @@ use lib.Dec.{ltb}
 use lib.ListN.{getD, length, length-take, take}
 use lib.Seq.{getD-take}
 use borrow.Author.Tests.{ltb-false, ltb-true}
-use Rattle.rules_theorems.specs.Promises.{Quiet}
+use Rattle.rules_theorems.specs.Demands.{Quiet}
 use Rattle.rules.specs.Records.{Send, sendRecord, sends, waitAck, waitInput}
 use Rattle.rules.specs.Run.{Rule, due, earliest, flush, input, late, loss, obey, orHere, others, rule, send, unsent, window}
 use Rattle.rules.specs.Sender.{Packet, Sender, nothing, packet, sentOf}
 use Rattle.rules.specs.Settings.{Settings}
-use Rattle.rules.specs.Books.Laws.{Good}
-use Rattle.rules.specs.Run.Laws.{Applies, Paid, isDue, one, split, stop, sweep, turns, two}
+use Rattle.rules_theorems.specs.Laws.BookRules.{Good}
+use Rattle.rules_theorems.specs.Laws.Run.{Applies, Paid, isDue, one, split, stop, sweep, turns, two}
 use Rattle.rules_theorems.proofs.Frame.{dropped-good, late-le, rule-applies}
 use Rattle.rules_theorems.proofs.Sends.{dropped-none, extra-some, sends-append, turn-paid, turns-end, turns-on}
 
@@ -25,7 +25,7 @@ neither : {a b : ℕ} {X : Type 0} → (a < b) ⊎ X → b ≤ a → ¬ X → �
 neither (inl u) h k = omega arith
 neither (inr x) h k = k x
 
--- the packet at place i has the earliest resend time before now
+-- the packet at index i has the earliest resend time before now
 abbrev Found : ℕ → List Packet → ℕ → Type 0
 Found now ps i = (i < length ps) × (getD ps i nothing .resend < now)
 
@@ -65,7 +65,7 @@ earliest-none now n (p ∷ ps) e i h =
     go false f o g zero h k = ltb-false _ _ f
     go false f o g (suc i) h k = k (rw (f, earliest) at e) i (omega arith)
 
--- it is the earliest, and the first of those: each other is not earlier, and each nearer the front is later
+-- it is the earliest, and the first such: no other is earlier, and all nearer the front are later
 pub earliest-least : (now n : ℕ) (ps : List Packet) (i : ℕ) → earliest now n ps ≡ some (n + i)
     → (j : ℕ) → j < length ps
     → (getD ps i nothing .resend ≤ getD ps j nothing .resend) × (j < i → getD ps i nothing .resend < getD ps j nothing .resend)
@@ -81,7 +81,7 @@ earliest-least now n (p ∷ ps) i e j h =
     Least : List Packet → ℕ → ℕ → Type 0
     Least qs i j = (At i qs ≤ At j qs) × (j < i → At i qs < At j qs)
 
-    -- the earliest is further on, before a bound that is at most p's resend time
+    -- the earliest comes later in the list, before a bound that is at most p's resend time
     past : (bound : ℕ) → bound ≤ p .resend → (m : ℕ) → earliest bound (suc n) ps ≡ some m → (i : ℕ) → m ≡ n + i → (j : ℕ)
         → j < length (p ∷ ps)
         → ((i : ℕ) → earliest bound (suc n) ps ≡ some (suc n + i) → (j : ℕ) → j < length ps → Least ps i j) → Least (p ∷ ps) i j
@@ -125,7 +125,7 @@ module _ (c : Settings) (now : ℕ) (draining : Bool) where
       let d : n - s .front ≡ x .0 = omega (arith, x .1) in
       (omega (arith, x .1), omega (arith, x .1), rw d (rw getD-take at (x .2 .1)))
 
-  -- the rule that applies where nothing is to be sent, and the other way round
+  -- the rule that applies if nothing is to be sent, and conversely
   stops : (r : Rule) (s : Sender) → Good s → Applies c now draining r s
       → (sends (obey c now draining r s .records) ≡ 0) ↔ Quiet c now draining s
   unfolding obey send sendRecord waitAck waitInput
@@ -156,7 +156,7 @@ module _ (c : Settings) (now : ℕ) (draining : Bool) where
           let z : sends (others c now draining s .records)
           ≡ 2 = rw q (omega arith) in rw (turns-on c now draining f b s e, sends-append) (λ h. omega arith, λ h. absurd (omega arith))
 
-  -- for p ≥ 1 a run sends none exactly when, after the late drop, nothing is to be sent
+  -- for p ≥ 1 a run sends none exactly if, after the late drop, nothing is to be sent
   pub split-quiet : (p : ℕ) (s : Sender) → Good s
       → (sends (split c now draining (suc p) s .records) ≡ 0) ↔ Quiet c now draining (sweep c now s .after)
   unfolding split sweep others

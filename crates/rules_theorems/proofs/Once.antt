@@ -1,6 +1,5 @@
--- No packet is sent twice in a run but by the flush. What a turn sends was pending: unsent, due, or on the loss list; the sending ends that,
--- since the resend time it sets is not before now, and nothing else becomes pending in a run.
--- Assumes nothing.
+-- No packet is sent twice in a run, except by the flush. What a turn sends was pending: unsent, due, or on the loss
+-- list. Sending ends that, since it sets a resend time that is not before now, and nothing becomes pending in a run.
 use mathlib.Core.Path.{_∙_, _≡_, ap, refl, sym}
 use mathlib.Core.Bool.{Bool, _&&_, false, not, true}
 use mathlib.Core.List.{List, [], _++_, _∷_, append-nil}
@@ -11,19 +10,21 @@ use lib.Dec.{eqb, leb, ltb}
 use lib.ListN.{drop, getD, length, length-drop, length-take}
 use lib.Seq.{getD-set-other, getD-set-same}
 use borrow.Author.Tests.{eq-eqb, eqb-false, eqb-true, leb-false, leb-true, ltb-true, ne-eqb}
-use Rattle.refusals.specs.Choice.{cond-false, cond-true}
-use Rattle.encapsulate.specs.Header.{bit, placeBits}
+use Rattle.laws.specs.Ascending.{Ascends}
+use Rattle.laws.specs.Bools.{and-r}
+use Rattle.laws.specs.Choice.{cond-false, cond-true}
+use Rattle.rules_packets.specs.Header.{bit, placeBits}
 use Rattle.rules.specs.Numbers.{wire}
-use Rattle.rules_theorems.specs.Promises.{On}
+use Rattle.rules_theorems.specs.Demands.{On}
 use Rattle.rules.specs.Records.{Action, ByLoss, ByTime, Kind, Send, again, dropRecord, isSend, sendRecord, sends, sentBefore, waitAck, waitInput}
 use Rattle.rules.specs.Run.{Rule, Turn, base, dropped, due, extra, flush, flushed, input, late, loop, loss, obey, others, rule, run, send, sendNext, sent, stamped, unsent, wait, window}
 use Rattle.rules.specs.Sender.{Packet, Sender, end, nothing, packet, sentOf}
 use Rattle.rules.specs.Settings.{Settings}
-use Rattle.rules.specs.Books.Laws.{Ascends, Kept}
-use Rattle.rules.specs.Numbers.Laws.{wire-injective}
-use Rattle.rules_theorems.specs.Promises.Once.{Distinct, isFlush, sentNumbers}
-use Rattle.rules.specs.Run.Laws.{Applies, one, split, sweep, turns}
-use Rattle.rules_theorems.proofs.Frame.{and-r, late-le, rule-applies, sent-length}
+use Rattle.rules_theorems.specs.Laws.BookRules.{Kept}
+use Rattle.rules_theorems.specs.Laws.Numbers.{wire-injective}
+use Rattle.rules_theorems.specs.Demands.Once.{Distinct, isFlush, sentNumbers}
+use Rattle.rules_theorems.specs.Laws.Run.{Applies, one, split, sweep, turns}
+use Rattle.rules_theorems.proofs.Frame.{late-le, rule-applies, sent-length}
 use Rattle.rules_theorems.proofs.Lists.{on-above, on-below}
 use Rattle.rules_theorems.proofs.None.{due-some}
 use Rattle.rules_theorems.proofs.Places.{buffered-few}
@@ -296,6 +297,6 @@ module _ (now : ℕ) where
         rw (dropped-numbers k s)
         (turns-once early (suc p) (suc p) w (dropped-kept c now draining early k s (late-le c now (s .packets)) g) .1)
 
-    -- "no packet is sent twice in a run but by the flush"
+    -- no packet is sent twice in a run, except by the flush
     pub run-once : now < 2 ^ 48 → (p : ℕ) (s : Sender) → Kept c s → Distinct (sentNumbers (run c now draining p s .records))
     run-once early p s g = rw run-is (split-once early p s g)

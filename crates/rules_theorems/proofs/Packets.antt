@@ -1,5 +1,5 @@
--- Lists of packets: what holds of all of them, and their wire sizes, after taking, dropping, setting and appending. By induction on the list.
--- Assumes nothing.
+-- Lists of packets: what holds of all of them, and their wire sizes, after taking, dropping, setting and appending. By
+-- induction on the list.
 use mathlib.Core.Path.{_≡_, refl}
 use mathlib.Core.List.{List, [], _++_, _∷_}
 use Prim.Native.Nat.{_+_, _-_, _<_, suc, zero, ℕ}
@@ -9,7 +9,7 @@ use lib.ListN.{drop, getD, length, set, take}
 use lib.Seq.{drop-drop, take-nil}
 use Rattle.rules.specs.Sender.{Packet, nothing, wireSizes}
 use Rattle.rules.specs.Settings.{Settings}
-use Rattle.rules.specs.Books.Laws.{All}
+use Rattle.rules_theorems.specs.Laws.BookRules.{All}
 
 module _ (P : Packet → Type 0) where
   pub all-drop : (k : ℕ) (ps : List Packet) → All P ps → All P (drop k ps)

@@ -1,6 +1,5 @@
--- Where a payload lies. Only a message gives the next packet a number and counts a push, so the k-th packet ever pushed has the number first
--- + k; a buffered packet is asked for by its number and lies at (k mod capacity) × packet size.
--- Assumes nothing.
+-- Where a payload lies. Only a message gives the next packet a number and counts a push, so the k-th packet ever pushed
+-- has the number first + k; a buffered packet is requested by its number, and lies at (k mod capacity) × packet size.
 use mathlib.Core.Path.{_∙_, _≡_, ap, refl, subst, sym}
 use mathlib.Core.Bool.{Bool, _&&_, false, true}
 use mathlib.Core.List.{List, [], _∷_}
@@ -11,12 +10,14 @@ use lib.Dec.{eqb, leb, ltb}
 use lib.ListN.{getD, length, length-append, length-drop}
 use lib.Seq.{getD-drop, getD-set-other, getD-set-same}
 use borrow.Author.Tests.{eqb-false, eqb-true, leb-true, lt-ltb, ltb-true}
-use Rattle.refusals.specs.declared.Refusal.{Refusal}
-use Rattle.refusals.specs.declared.Verdict.the-variants.{Accepted}
-use Rattle.refusals.specs.Table.{numberOf}
-use Rattle.refusals.specs.Choice.{cond-by, cond-true}
-use Rattle.rtt.specs.declared.Rtt.{Rtt}
-use Rattle.pacing.specs.declared.options.LiveBandwidthMode.{LiveBandwidthMode}
+use Rattle.laws.specs.Ascending.{Ascends}
+use Rattle.laws.specs.Bools.{and-l, and-r}
+use Rattle.rules_refusals.specs.declared.Refusal.{Refusal}
+use Rattle.rules_refusals.specs.declared.Verdict.the-variants.{Accepted}
+use Rattle.rules_refusals.specs.Table.{numberOf}
+use Rattle.laws.specs.Choice.{cond-by, cond-true}
+use Rattle.rules_numbers.specs.declared.Rtt.{Rtt}
+use Rattle.rules_pacing.specs.declared.LiveBandwidthMode.{LiveBandwidthMode}
 use Rattle.rules.specs.Ack.{ackOf, acknowledge, takeRtt}
 use Rattle.rules.specs.Calls.{Answer, Call, ack, after, answer, calls, left, message, nak, payload, runs, verdictOf, withRtt}
 use Rattle.rules.specs.Losses.{Item, report, wordsOf, itemsOf}
@@ -26,17 +27,17 @@ use Rattle.rules.specs.Reports.{heldOf, payloadOf}
 use Rattle.rules.specs.Run.{Rule, Turn, dropped, due, extra, flush, flushed, input, late, loop, loss, obey, others, rule, run, send, sendNext, sent, stamped, unsent, window}
 use Rattle.rules.specs.Sender.{Packet, Sender, end, fresh, nothing, packet, pushOf, remove}
 use Rattle.rules.specs.Settings.{Settings, inRange, placeOf}
-use Rattle.rules.specs.Books.Laws.{Ascends, Good, Kept}
-use Rattle.rules.specs.Calls.Laws.{answer-by, answer-taken, answer-verdict}
-use Rattle.rules.specs.Numbers.Laws.{distance-wire}
-use Rattle.rules.specs.Run.Laws.{Applies, split, sweep, turns}
+use Rattle.rules_theorems.specs.Laws.BookRules.{Good, Kept}
+use Rattle.rules_theorems.specs.Laws.Calls.{answer-by, answer-taken, answer-verdict}
+use Rattle.rules_theorems.specs.Laws.Numbers.{distance-wire}
+use Rattle.rules_theorems.specs.Laws.Run.{Applies, split, sweep, turns}
 use Rattle.rules_theorems.proofs.Counts.{message-counts}
-use Rattle.rules_theorems.proofs.Frame.{and-l, and-r, dropped-good, late-le, obey-good, rule-applies, sent-length}
+use Rattle.rules_theorems.proofs.Frame.{dropped-good, late-le, obey-good, rule-applies, sent-length}
 use Rattle.rules_theorems.proofs.None.{due-some}
 use Rattle.rules_theorems.proofs.Split.{loop-end, loop-on, run-is}
 use Rattle.rules_theorems.proofs.Verdicts.{ack-taken, run-taken}
 
--- neither one past the back nor the pushes change, nor the length of a packet that stays
+-- one past the back, the pushes and the lengths of the packets that stay don't change
 pub record Steady (s t : Sender) : Type 0 where
   pub ends : end t ≡ end s
   pub pushed : t .pushed ≡ s .pushed
@@ -225,12 +226,12 @@ module _ (c : Settings) where
       let d = and-r (leb (c .size) 1_456) _ b in
       leb-true _ _ (and-l (leb (c .buffer) 8_192) _ d)
 
-  -- fewer than 2^31 are buffered, so a number on the wire names one of them
+  -- at most 8,192 are buffered, so a number on the wire names one of them
   pub buffered-few : (s : Sender) → Kept c s → length (s .packets) ≤ 8_192
   buffered-few s g = omega (arith, g .fits, buffer-least (g .fields .settings))
 
-  -- "the k-th packet ever pushed (from 0) lies at (k mod capacity) × packet size": it has the number first + k, and while it is buffered
-  -- a request for its payload answers that place and its length
+  -- "the k-th packet ever pushed (from 0) lies at (k mod capacity) × packet size": it has the number first + k, and
+  -- while it is buffered a request for its payload answers that place and its length
   pub payload-place : (s : Sender) → Kept c s → Numbered s → (k : ℕ) → s .front ≤ c .first + k → c .first + k < end s
       → payloadOf c s (wire (c .first + k)) ≡ some (record { place = placeOf c k; len = packet s (c .first + k) .len })
   unfolding payloadOf

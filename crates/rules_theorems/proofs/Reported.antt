@@ -1,6 +1,6 @@
--- After a report the loss list holds what it held and, each once, the reported numbers that are buffered and sent. The list ascends, so each
--- stands there once (`enterAll-ascends`); what enters are the numbers of the Added runs, and the runs name exactly the numbers reported.
--- Assumes nothing.
+-- After a report the loss list holds what it held and, each once, the reported numbers that are buffered and sent. The
+-- list ascends, so each is there once (`enterAll-ascends`); the numbers of the Added runs enter, and the runs name
+-- exactly the numbers reported.
 use mathlib.Core.Path.{_∙_, _≡_, ap, refl, sym}
 use mathlib.Core.Bool.{Bool, false, true}
 use mathlib.Core.List.{List, [], _++_, _∷_}
@@ -11,11 +11,11 @@ use lib.Dec.{eqb, leb, ltb}
 use borrow.Author.Tests.{eqb-false, eqb-true, leb-false, leb-true, lt-ltb}
 use Rattle.rules.specs.Losses.{Added, Dropped, Ignored, Item, LossKind, LossRun, enterAll, enterBy, entered, kindBy, kindOf, report, runsOf}
 use Rattle.rules.specs.Numbers.{distance, wire}
-use Rattle.rules_theorems.specs.Promises.{On}
+use Rattle.rules_theorems.specs.Demands.{On}
 use Rattle.rules.specs.Sender.{Sender, insert, sentOf}
-use Rattle.rules.specs.Books.Laws.{Good}
-use Rattle.rules.specs.Numbers.Laws.{distance-wire, wire-below, wire-distance, wire-injective}
-use Rattle.rules_theorems.specs.Promises.Losses.{AllOf, AllRuns, Fine, OneKind, answered, reported, upFrom}
+use Rattle.rules_theorems.specs.Laws.BookRules.{Good}
+use Rattle.rules_theorems.specs.Laws.Numbers.{distance-wire, wire-below, wire-distance, wire-injective}
+use Rattle.rules_theorems.specs.Demands.Losses.{AllOf, AllRuns, Fine, OneKind, answered, reported, upFrom}
 use Rattle.rules_theorems.proofs.Entering.{Inside, enterAll-on, entered-on, runs-inside}
 use Rattle.rules_theorems.proofs.Losses.{runs-covers, runs-kinds}
 
@@ -174,7 +174,7 @@ all-of-at s k m (suc n) (suc i) l h a =
     rw e (all-of-at s k (wire (suc m)) n i (wire-below (suc m)) (omega arith) (a .1))
 
 module _ (s : Sender) (g : Good s) (short : sentOf s < 2 ^ 30) where
-  -- what number i of a run that begins at a distance p from the front is called on the wire
+  -- number i of a run that begins at f, on the wire
   run-wire : (f i : ℕ) → f < 2 ^ 31 → wire (s .front + distance (wire (s .front)) f + i) ≡ wire (f + i)
   run-wire f i l = same (distance (wire (s .front)) f) (wire-distance (s .front) f l)
     where

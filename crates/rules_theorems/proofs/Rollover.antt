@@ -1,6 +1,6 @@
--- Moving every time and `now` by the same amount changes nothing in what a run does but the times that it shows: lateness and resend times
--- are compared as full times, and each comparison moves with both its sides. So no rollover of the 32-bit stamp can change a run.
--- Assumes nothing.
+-- Moving every time and `now` by the same amount changes nothing in what a run does but the times in its records:
+-- lateness and resend times are compared as full times, and both sides of each comparison move. So no rollover of the
+-- 32-bit stamp can change a run.
 use mathlib.Core.Path.{_∙_, _≡_, ap, refl, sym}
 use mathlib.Core.Bool.{Bool, _&&_, false, true}
 use mathlib.Core.List.{List, [], _++_, _∷_, map}
@@ -10,20 +10,23 @@ use native.Mathlib.Omega.{arith}
 use lib.Dec.{eqb, ltb}
 use lib.ListN.{drop, length, take}
 use borrow.Author.Tests.{ltb-true}
-use Rattle.refusals.specs.Choice.{cond-false, cond-true}
+use Rattle.laws.specs.Ascending.{Ascends}
+use Rattle.laws.specs.Bools.{and-r}
+use Rattle.laws.specs.Lists.{map-append, map-drop, map-take}
+use Rattle.laws.specs.Choice.{cond-false, cond-true}
 use Rattle.rules.specs.Numbers.{wire}
 use Rattle.rules.specs.Records.{ByLoss, ByTime, Kind, Send, dropRecord, isSend, sendRecord, sends, waitAck, waitInput}
 use Rattle.rules.specs.Run.{Result, Rule, Turn, dropped, due, earliest, extra, first, flush, flushed, input, join, late, loop, loss, obey, others, rule, run, send, sendNext, unsent, window}
 use Rattle.rules.specs.Sender.{Packet, Sender, end, from, packet, put, sentOf, wireSizes}
 use Rattle.rules.specs.Settings.{Settings, capacity}
-use Rattle.rules.specs.Books.Laws.{Ascends, Good, Kept}
-use Rattle.rules_theorems.specs.Promises.Times.{later, laterAction, laterPacket}
-use Rattle.rules.specs.Run.Laws.{Applies, split, sweep, turns}
-use Rattle.rules_theorems.proofs.Frame.{and-r, late-le, rule-applies}
+use Rattle.rules_theorems.specs.Laws.BookRules.{Good, Kept}
+use Rattle.rules_theorems.specs.Demands.Times.{later, laterAction, laterPacket}
+use Rattle.rules_theorems.specs.Laws.Run.{Applies, split, sweep, turns}
+use Rattle.rules_theorems.proofs.Frame.{late-le, rule-applies}
 use Rattle.rules_theorems.proofs.None.{due-some}
 use Rattle.rules_theorems.proofs.RunKept.{dropped-kept, others-kept}
 use Rattle.rules_theorems.proofs.Split.{loop-end, loop-on, run-is}
-use Rattle.rules_theorems.proofs.Later.{earliest-later, late-later, map-append, map-drop, map-length, map-take, packet-later, record-later, sends-later, sent-later, sizes-later}
+use Rattle.rules_theorems.proofs.Later.{earliest-later, late-later, map-length, packet-later, record-later, sends-later, sent-later, sizes-later}
 
 module _ (c : Settings) (d now : ℕ) where
   abbrev laterTurn : Turn → Turn
@@ -46,7 +49,7 @@ module _ (c : Settings) (d now : ℕ) where
     unfolding later
     end-later s = ap (λ (n : ℕ). s .front + n) (map-length (laterPacket d) (s .packets))
 
-    -- the second half of rule 5, where the first half moved alike
+    -- the second half of rule 5, if the first half moved in the same way
     extra-later : (t u : Turn) → u ≡ laterTurn t → t .after .front ≤ t .after .next
         → extra c (now + d) draining u ≡ laterTurn (extra c now draining t)
     unfolding extra later
@@ -71,7 +74,7 @@ module _ (c : Settings) (d now : ℕ) where
               ends = false;
             })
             ∙ ((λ i. record {
-              records = sym (map-append c d now (t .records) (sendNext c now draining s .records)) i;
+              records = sym (map-append (laterAction d) (t .records) (sendNext c now draining s .records)) i;
               after = later d
                   (sendNext c now draining s .after);
               ends = false;
@@ -142,7 +145,7 @@ module _ (c : Settings) (d now : ℕ) where
     obey-later input s g a = input-later s
 
     joined-later : (t : Turn) (r : Result) → join (laterTurn t) (laterResult r) ≡ laterResult (join t r)
-    joined-later t r = λ i. record { records = sym (map-append c d now (t .records) (r .records)) i; after = later d (r .after); left = r .left }
+    joined-later t r = λ i. record { records = sym (map-append (laterAction d) (t .records) (r .records)) i; after = later d (r .after); left = r .left }
 
     late-of : (s : Sender) → late c (now + d) (later d s .packets) ≡ late c now (s .packets)
     unfolding later

@@ -1,5 +1,5 @@
--- How many records a run writes: each send takes a packet off what is to be sent (unsent, due, on the list), and a flush comes once.
--- Assumes nothing.
+-- How many records a run writes: each send leaves one packet fewer to be sent (unsent, due, on the list), and there is
+-- at most one flush.
 use mathlib.Core.Path.{_≡_, refl}
 use mathlib.Core.Bool.{Bool, _&&_, _||_, false, true, true≢false}
 use mathlib.Core.List.{List, [], _∷_}
@@ -8,14 +8,16 @@ use native.Mathlib.Omega.{arith}
 use lib.Dec.{eqb, leb, ltb}
 use lib.ListN.{drop, getD, length, length-append, length-drop, set}
 use borrow.Author.Tests.{eq-eqb, le-leb, le-ltb, leb-true, lt-leb, lt-ltb, ltb-true, ne-eqb}
+use Rattle.laws.specs.Ascending.{Ascends}
+use Rattle.laws.specs.Bools.{and-r}
 use Rattle.rules.specs.Numbers.{wire}
 use Rattle.rules.specs.Records.{ByLoss, ByTime, Kind, Send, sends}
 use Rattle.rules.specs.Run.{Result, Rule, Turn, dropped, due, extra, flush, flushed, input, late, loop, loss, obey, others, rule, send, sent, stamped, unsent, window}
 use Rattle.rules.specs.Sender.{Packet, Sender, end, from, nothing, packet}
 use Rattle.rules.specs.Settings.{Settings}
-use Rattle.rules.specs.Books.Laws.{Ascends, Good}
-use Rattle.rules.specs.Run.Laws.{Applies, Paid, one, split, stop, sweep, turns, two}
-use Rattle.rules_theorems.proofs.Frame.{and-r, dropped-good, late-le, obey-good, rule-applies, send-good, sent-length}
+use Rattle.rules_theorems.specs.Laws.BookRules.{Good}
+use Rattle.rules_theorems.specs.Laws.Run.{Applies, Paid, one, split, stop, sweep, turns, two}
+use Rattle.rules_theorems.proofs.Frame.{dropped-good, late-le, obey-good, rule-applies, send-good, sent-length}
 use Rattle.rules_theorems.proofs.None.{due-some}
 use Rattle.rules_theorems.proofs.Sends.{turn-paid, turns-end, turns-on, turns-zero}
 
@@ -49,7 +51,7 @@ count-mono f g m [] h = omega arith
 count-mono f g m (p ∷ ps) h =
     omega (arith, bit-mono (g m p) (f m p) (h m p (omega arith)), count-mono f g (suc m) ps (λ j q k. h j q (omega arith)))
 
--- the packet at place i, with number n, passed f and its successor fails g; elsewhere g passes only what f passes
+-- the packet at index i, with number n, satisfied f and its replacement doesn't satisfy g; elsewhere g implies f
 count-set : (f g : ℕ → Packet → Bool) (n m : ℕ) (ps : List Packet) (i : ℕ) (x : Packet) → i < length ps → n ≡ m + i
     → f n (getD ps i nothing) ≡ true → g n x ≡ false
     → ((j : ℕ) (p : Packet) → ¬ (j ≡ n) → g j p ≡ true → f j p ≡ true) → count g m (set ps i x) < count f m ps
@@ -112,7 +114,7 @@ module _ (c : Settings) (now : ℕ) (draining : Bool) where
       (λ j r z. or-mono (leb m j) (leb (s .next) j) (ltb (r .resend) now) (isOn j l) (isOn j (s .lost))
       (λ e. le-leb _ _ (h j (leb-true _ _ e))) (h′ j))
 
-  -- what is to be sent, and 1 for a flush while anything is buffered
+  -- how many are to be sent, plus 1 for a flush while anything is buffered
   ahead : Sender → ℕ
   ahead s = todo now s + min 1 (length (s .packets))
 

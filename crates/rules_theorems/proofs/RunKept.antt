@@ -1,6 +1,5 @@
--- Every turn of a run, and so a run, keeps the book rules: removal from the front, a resend, a first sending, the flush. `same-kept` serves
--- every call that leaves the packets and their numbers.
--- Assumes nothing.
+-- Every turn of a run, and so a run, keeps the book rules: removal from the front, a resend, a first sending, the
+-- flush. `same-kept` is for every call that doesn't change the packets and their numbers.
 use mathlib.Core.Path.{_≡_, refl}
 use mathlib.Core.Bool.{Bool, _&&_, false, true}
 use mathlib.Core.List.{List, [], _∷_}
@@ -11,15 +10,16 @@ use lib.Dec.{eqb, ltb}
 use lib.ListN.{drop, length, length-drop, length-take, take}
 use lib.Seq.{drop-cons, drop-set-lt, getD-take, take-set-lt, take-suc-set}
 use borrow.Author.Tests.{ltb-true}
+use Rattle.laws.specs.Ascending.{Ascends, widen}
+use Rattle.laws.specs.Bools.{and-r}
 use Rattle.rules.specs.Numbers.{wire}
 use Rattle.rules.specs.Records.{ByLoss, ByTime, Kind, Send, sends}
 use Rattle.rules.specs.Run.{Rule, Turn, base, dropped, due, extra, flush, flushed, input, late, loop, loss, obey, others, rule, run, send, sent, stamped, unsent, wait, window}
 use Rattle.rules.specs.Sender.{Packet, Sender, end, nothing, packet, remove, sentOf, wireSizes}
 use Rattle.rules.specs.Settings.{Settings}
-use Rattle.rules.specs.Books.Laws.{Ascends, Fields, Kept, Sent, Unsent}
-use Rattle.rules.specs.Run.Laws.{Applies, split, sweep, turns}
-use Rattle.rules_theorems.proofs.Frame.{and-r, late-le, remove-good, rule-applies, send-good, sent-length}
-use Rattle.rules_theorems.proofs.Lists.{widen}
+use Rattle.rules_theorems.specs.Laws.BookRules.{Fields, Kept, Sent, Unsent}
+use Rattle.rules_theorems.specs.Laws.Run.{Applies, split, sweep, turns, wait-small}
+use Rattle.rules_theorems.proofs.Frame.{late-le, remove-good, rule-applies, send-good, sent-length}
 use Rattle.rules_theorems.proofs.None.{due-some}
 use Rattle.rules_theorems.proofs.Packets.{all-at, all-drop, all-set, all-snoc, drop-past, sizes-drop, sizes-set, take-drop}
 use Rattle.rules_theorems.proofs.Split.{loop-end, loop-on, run-is}
@@ -52,16 +52,11 @@ module _ (c : Settings) where
         fields = g .fields;
       }
 
-  pub wait-le : (b n : ℕ) → wait b n ≤ 2 ^ 30 - 1
-  unfolding wait
-  wait-le b zero = omega arith
-  wait-le b (suc n) = omega arith
-
   pub stamped-sent : (now : ℕ) (s : Sender) (p : Packet) → now < 2 ^ 48 → p .time < 2 ^ 48 → p .message < 2 ^ 26 → p .len ≤ c .size
       → Sent c (stamped now s p)
   unfolding stamped
   stamped-sent now s p h t m l =
-      record { time = t; message = m; len = l; once = omega arith; most = omega arith; resend = omega (arith, wait-le (base s) (p .count)) }
+      record { time = t; message = m; len = l; once = omega arith; most = omega arith; resend = omega (arith, wait-small (base s) (p .count)) }
 
   pub old-at : (s : Sender) (n : ℕ) → Kept c s → s .front ≤ n → n < s .next → n - s .front < sentOf s
       → n - s .front < length (take (sentOf s) (s .packets)) → Sent c (packet s n)
@@ -77,7 +72,7 @@ module _ (c : Settings) where
   unfolding sent stamped packet
   sizes-sent now s n = sizes-set c (s .packets) (n - s .front) (stamped now s (packet s n)) refl
 
-  -- k packets go and their bytes too
+  -- k packets go, and their bytes too
   pub gone-kept : (k : ℕ) (s : Sender) → k ≤ length (s .packets) → Kept c s
       → Kept c (remove k (s .bytes - wireSizes c (take k (s .packets))) s)
   gone-kept k s h g =

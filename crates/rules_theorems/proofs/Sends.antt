@@ -1,6 +1,6 @@
--- How much a run sends. A turn of rules 2 to 7 ends the run and sends nothing, or sends one packet, or two with the second one's number
--- divisible by 16 (`Paid`); what it costs is literally the sends among its records, so the bounds follow by induction on the turns.
--- Assumes nothing.
+-- How much a run sends. A turn of rules 2 to 7 ends the run and sends nothing, or sends one packet, or two with the
+-- second one's number divisible by 16 (`Paid`); its cost is the number of sends among its records, so the bounds follow
+-- by induction on the turns.
 use mathlib.Core.Path.{_≡_, refl, sym}
 use mathlib.Core.Bool.{Bool, _&&_, false, true}
 use mathlib.Core.List.{List, [], _++_, _∷_, append-assoc}
@@ -8,14 +8,14 @@ use Prim.Native.Nat.{_%_, _+_, _-_, _≤_, suc, zero, ℕ}
 use native.Mathlib.Omega.{arith}
 use lib.Dec.{eqb, ltb}
 use borrow.Author.Tests.{eqb-true}
+use Rattle.laws.specs.Bools.{and-l}
 use Rattle.rules.specs.Numbers.{wire}
-use Rattle.rules_theorems.specs.Promises.{Within, over, under}
+use Rattle.rules_theorems.specs.Demands.{Within, over, under}
 use Rattle.rules.specs.Records.{Action, Send, dropRecord, isSend, sendRecord, sends, waitAck, waitInput}
 use Rattle.rules.specs.Run.{Result, Rule, Turn, dropped, due, extra, flush, input, join, late, loop, loss, obey, others, rule, send, unsent, window}
 use Rattle.rules.specs.Sender.{Sender, end, packet}
 use Rattle.rules.specs.Settings.{Settings}
-use Rattle.rules.specs.Run.Laws.{Paid, one, split, stop, sweep, turns, two}
-use Rattle.rules_theorems.proofs.Frame.{and-l}
+use Rattle.rules_theorems.specs.Laws.Run.{Paid, one, split, stop, sweep, turns, two}
 
 pub sends-append : (rs qs : List Action) → sends (rs ++ qs) ≡ sends rs + sends qs
 sends-append [] qs = omega arith
@@ -108,7 +108,7 @@ module _ (c : Settings) (now : ℕ) (draining : Bool) where
   dropped-none zero s = refl
   dropped-none (suc k) s = refl
 
-  -- a run with budget p sends at most p + 1 packets, the extra one only if its number divides by 16
+  -- a run with budget p sends at most p + 1 packets, the extra one only if its number is divisible by 16
   pub split-within : (p : ℕ) (s : Sender) → Within p (split c now draining p s .records)
   unfolding split sweep
   split-within zero s = under (omega arith)

@@ -1,6 +1,6 @@
--- A number on the loss list is sent once accepted runs got as many units as it has smaller ones there, and one more: a unit takes the
--- smallest from the list, every other call leaves the number and adds no smaller one, or the number leaves the buffer (`Fate`).
--- Assumes nothing.
+-- A number with k smaller ones on the loss list is sent once accepted runs have got k + 1 units: each unit takes the
+-- smallest off the list, and every other call leaves the number there and adds no smaller one, or the number leaves the
+-- buffer (`Fate`).
 use mathlib.Core.Path.{_∙_, _≡_, ap, refl, sym}
 use mathlib.Core.Bool.{Bool, _&&_, false, true}
 use mathlib.Core.List.{List, [], _++_, _∷_}
@@ -10,23 +10,23 @@ use native.Mathlib.Omega.{arith}
 use lib.Dec.{eqb, leb, ltb}
 use lib.ListN.{length}
 use borrow.Author.Tests.{leb-false, leb-true}
-use Rattle.refusals.specs.declared.Refusal.{Refusal}
-use Rattle.refusals.specs.Table.{numberOf}
-use Rattle.refusals.specs.Choice.{cond-by}
+use Rattle.rules_refusals.specs.declared.Refusal.{Refusal}
+use Rattle.rules_refusals.specs.Table.{numberOf}
+use Rattle.laws.specs.Choice.{cond-by}
 use Rattle.rules.specs.Ack.{ackOf, acknowledge, takeRtt}
 use Rattle.rules.specs.Calls.{Answer, Call, ack, after, allRecords, allUnits, answer, calls, left, message, nak, payload, pushedBy, records, recordsOf, runs, saidBy, units, unitsBy, withRtt}
 use Rattle.rules.specs.Losses.{report, runsOf, wordsOf, itemsOf}
 use Rattle.rules.specs.Message.{append, begin, makeRoom, packetsOf, push, pushAll}
 use Rattle.rules.specs.Numbers.{wire}
-use Rattle.rules_theorems.specs.Promises.{AllGiven, On, SentIn, Spared, Spares}
+use Rattle.rules_theorems.specs.Demands.{AllGiven, On, SentIn, Spared, Spares}
 use Rattle.rules.specs.Records.{Action, ByLoss, Send, sendRecord, sends}
 use Rattle.rules.specs.Run.{Rule, Turn, dropped, due, extra, first, flush, flushed, input, join, late, loop, loss, obey, others, rule, run, send, unsent, window}
 use Rattle.rules.specs.Sender.{Packet, Sender, below, end, from}
 use Rattle.rules.specs.Settings.{Settings, capacity}
-use Rattle.rules.specs.Books.Laws.{Good, Kept}
-use Rattle.rules.specs.Calls.Laws.{accepted, answer-by}
-use Rattle.rules_theorems.specs.Promises.Times.{later}
-use Rattle.rules.specs.Run.Laws.{split, sweep, turns}
+use Rattle.rules_theorems.specs.Laws.BookRules.{Good, Kept}
+use Rattle.rules_theorems.specs.Laws.Calls.{accepted, answer-by}
+use Rattle.rules_theorems.specs.Demands.Times.{later}
+use Rattle.rules_theorems.specs.Laws.Run.{split, sweep, turns}
 use Rattle.rules_theorems.proofs.CallsKept.{answer-kept}
 use Rattle.rules_theorems.proofs.Entering.{enterAll-on}
 use Rattle.rules_theorems.proofs.Frame.{dropped-good, late-le, obey-good}
@@ -43,7 +43,7 @@ sent-right : (n : ℕ) (rs qs : List Action) → SentIn n qs → SentIn n (rs ++
 sent-right n [] qs o = o
 sent-right n (a ∷ rs) qs o = inr (sent-right n rs qs o)
 
--- ## What becomes of n: it was sent, or left the buffer, or is still on the list and u smaller ones are gone from there
+-- ## What happens to n: it was sent, or left the buffer, or is still on the list with u smaller ones gone
 data Fate (n u k : ℕ) (rs : List Action) (s : Sender) : Type 0 where
   sent : SentIn n rs → Fate n u k rs s
   gone : n < s .front → Fate n u k rs s
@@ -91,7 +91,7 @@ module _ (c : Settings) (now : ℕ) (draining : Bool) where
           (fate-after (send c now draining ByLoss x (s .next) xs s .records) (λ y p. omega arith) (ih x xs e o))
       go [] e o ih = absurd o
 
--- ## What changes otherwise: packets go from the front, and from the list too
+-- ## Other changes: packets leave the front, and the list
 
 record Moves (s t : Sender) : Type 0 where
   up : s .front ≤ t .front
@@ -274,8 +274,8 @@ module _ (c : Settings) where
   calls-up [] s = omega arith
   calls-up (k ∷ ks) s = omega (arith, answer-up k s, calls-up ks (answer c k s .after))
 
-  -- n, on the list with k smaller ones, is sent once accepted runs got k + 1 units, unless it left the buffer or a report newly added a
-  -- smaller one
+  -- n, on the list with k smaller ones, is sent once accepted runs have got k + 1 units, unless it left the buffer or a
+  -- report added a smaller one
   pub served : (n : ℕ) (ks : List Call) (s : Sender) → AllGiven ks → Kept c s → On n (s .lost) → Spared c n ks s
       → below n (s .lost) < allUnits c ks s → SentIn n (allRecords c ks s) ⊎ (n < calls c ks s .front)
   unfolding allUnits allRecords calls Served

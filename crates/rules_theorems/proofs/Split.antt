@@ -1,6 +1,5 @@
--- Rule 1 applies at most once in a run, at its start: after the drop the front is not late, no other rule changes that, and so the run is the
--- late drop and then the loop over rules 2 to 7 (`run-is`).
--- Assumes nothing.
+-- Rule 1 applies at most once in a run, at its start: after the drop the front is not late, no other rule changes that,
+-- so the run is the late drop followed by the loop over rules 2 to 7 (`run-is`).
 use mathlib.Core.Path.{_∙_, _≡_, refl, sym}
 use mathlib.Core.Bool.{Bool, _&&_, false, true}
 use mathlib.Core.List.{List, [], _∷_}
@@ -14,7 +13,7 @@ use Rattle.rules.specs.Records.{ByLoss, ByTime, Kind, Send, sends}
 use Rattle.rules.specs.Run.{Rule, Turn, dropped, due, extra, flush, flushed, input, isLate, join, late, lateFrom, loop, loss, obey, others, rule, run, send, sent, stamped, turn, turnBy, unsent, window}
 use Rattle.rules.specs.Sender.{Packet, Sender, end, nothing, packet}
 use Rattle.rules.specs.Settings.{Settings}
-use Rattle.rules.specs.Run.Laws.{Applies, Paid, one, split, stop, sweep, turns, two}
+use Rattle.rules_theorems.specs.Laws.Run.{Applies, Paid, one, split, stop, sweep, turns, two}
 use Rattle.rules_theorems.proofs.Frame.{rule-applies}
 use Rattle.rules_theorems.proofs.Sends.{dropped-none, turn-paid}
 
@@ -102,7 +101,7 @@ module _ (c : Settings) (now : ℕ) where
     unfolding turn turnBy
     turn-is s h = rw (h, turn)
 
-    -- where the front is not late the two loops are one
+    -- if the front is not late, the two loops are the same
     loops-agree : (f b : ℕ) (s : Sender) → late c now (s .packets) ≡ 0 → loop (turn c now draining) f b s ≡ turns c now draining f b s
     unfolding loop others
     loops-agree zero b s h = refl

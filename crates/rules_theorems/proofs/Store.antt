@@ -1,6 +1,6 @@
--- The store. A message writes each payload at its packet's place and nothing else; the last `capacity` packets ever pushed have places of
--- their own, so the payload of a buffered packet lies in the store just as it was pushed, whatever calls came since.
--- Assumes nothing.
+-- The store. A message writes each payload at its packet's place and nothing else; the last `capacity` packets ever
+-- pushed have distinct places, so the payload of a buffered packet is in the store as it was pushed, whatever calls
+-- came since.
 use mathlib.Core.Path.{_∙_, _≡_, ap, refl, sym}
 use mathlib.Core.Bool.{Bool, false, true}
 use mathlib.Core.List.{List, _++_, append-assoc}
@@ -12,7 +12,7 @@ use lib.Dec.{eqb, leb}
 use lib.ListN.{List·getD-append, drop, getD, length, length-drop, length-take, take}
 use lib.Seq.{getD-append-add, getD-drop, getD-take, length-paste, paste}
 use borrow.Author.Tests.{eqb-false, eqb-true, leb-false, leb-true}
-use Rattle.encapsulate.specs.Split.{lengthOf, startOf}
+use Rattle.rules_packets.specs.Split.{lengthOf, startOf}
 use Rattle.rules.specs.Message.{written}
 use Rattle.rules.specs.Settings.{Settings, capacity, placeOf, storeSize}
 
@@ -64,7 +64,7 @@ module _ (d : List ℕ) (at : ℕ) (s : List ℕ) (n : ℕ) (fits : at + n ≤ l
 
 -- ## Places
 
--- fewer than m apart, two different numbers leave different remainders
+-- two different numbers less than m apart have different remainders
 mod-differs : (m k l : ℕ) → 0 < m → k < l → l < k + m → k % m ≡ l % m → ⊥
 mod-differs m k l pos h n e = go (leb (l / m) (k / m)) refl
   where
@@ -163,7 +163,7 @@ module _ (c : Settings) where
         written-out (suc k) (suc i) n (put-one k i store) (omega (arith, one-length k i store big)) l j (omega arith) (omega arith) h
         ∙ one-out k i store big l j lo (omega arith) h
 
-    -- a packet of the message lies at its place, if the message has at most the capacity of packets from it on
+    -- a packet of the message lies at its place if at most the capacity of packets come from it on
     pub written-in : (k i n : ℕ) (store : List ℕ) → storeSize c ≤ length store → (x j : ℕ) → x < n → n ≤ x + capacity c → j < part (i + x)
         → getD (written c bytes k i n store) (placeOf c (k + x) + j) 0 ≡ getD bytes (startOf (c .size) (i + x) + j) 0
     unfolding written

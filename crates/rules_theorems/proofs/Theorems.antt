@@ -1,20 +1,23 @@
--- What is promised of a sender, in one place; each line's proof is in the module that it cites.
---   books-kept                     after any calls from a fresh sender, refused ones included, the book rules hold: no call answers 3
---   demand-three                   demand 3, whole, after any such calls
---   refused-nothing                a refusal changes nothing; 11 nothing but the RTT (proofs/Counts.antt)
---   ack-counts, message-counts     what the answers count is what went (proofs/Counts.antt)
---   run-room                       the records of a run are within the room that is asked
---   run-drops, run-drops-front     a drop happens at most once in a run and first, exactly where the front is late; late-overdue   and takes
---                                  no packet that is neither late nor of the message of the last late one before it (proofs/Drops.antt)
---   run-once                       no packet is sent twice in a run but by the flush (proofs/Once.antt)
---   run-later                      the rollover: a run with every time and now moved by the same amount (proofs/Rollover.antt)
---   report-lost                    the loss list after a report: what was there, and the reported numbers that are buffered and sent
---                                  (proofs/Reported.antt)
---   report-answer                  the answer to a loss report: its numbers, its kinds, maximal, at most three runs for an item
---   payload-lies                   the k-th packet ever pushed lies at (k mod capacity) × packet size
---   payload-readable               and the store holds there, while it is buffered, what was pushed; written-only   a message writes its
---                                  payloads' bytes and no others (proofs/Store.antt)
--- Assumes nothing.
+-- What is promised of a sender, in one place. The proofs are in the modules cited.
+--   books-kept                   after any calls from a fresh sender, refused ones included, the book rules hold, so no
+--                                call answers 3
+--   demand-three                 demand 3 as a whole, after any such calls
+--   lost-sent, run-within, run-none, run-quiet, run-left   its parts
+--   refused-nothing              a refusal changes nothing, except that 11 keeps a new RTT (Counts)
+--   ack-counts, message-counts   the counts in the answers are true (Counts)
+--   run-room                     a run's records fit in the room that is required
+--   run-drops, run-drops-front   a drop happens at most once in a run, first, and exactly if the front is late (Drops)
+--   late-overdue                 it removes only packets that are late, or of the same message as the last late one
+--                                before them (Drops)
+--   run-once                     no packet is sent twice in a run, except by the flush (Once)
+--   run-later                    the rollover: a run with every time and now moved by the same amount (Rollover)
+--   report-lost                  the loss list after a report: what was there, and the reported numbers that are
+--                                buffered and sent (Reported)
+--   report-answer                the answer to a loss report: its numbers, its kinds, maximal runs, at most three per
+--                                item
+--   payload-lies                 the k-th packet ever pushed lies at (k mod capacity) × packet size
+--   payload-readable             and while it is buffered, the store holds there what was pushed
+--   written-only                 a message writes the bytes of its payloads and no others (Store)
 use mathlib.Core.Path.{_∙_, _≡_, ap, refl}
 use mathlib.Core.Bool.{Bool, _&&_, not, true}
 use mathlib.Core.List.{List, []}
@@ -24,29 +27,29 @@ use Prim.Native.Nat.{_+_, _-_, _<_, _^_, _≤_, min, suc, ℕ}
 use native.Mathlib.Omega.{arith}
 use lib.ListN.{length, length-take}
 use borrow.Author.Tests.{not-false}
-use Rattle.refusals.specs.declared.Refusal.the-variants.{BadSetting}
-use Rattle.refusals.specs.declared.Verdict.the-variants.{Accepted}
-use Rattle.refusals.specs.Verdict.Laws.{when-accepted}
-use Rattle.pacing.specs.declared.options.LiveBandwidthMode.{LiveBandwidthMode}
-use Rattle.pacing.specs.Period.{modeInRange}
-use Rattle.rules.specs.Books.{kept}
+use Rattle.laws.specs.Bools.{and-l, and-r}
+use Rattle.rules_refusals.specs.declared.Refusal.the-variants.{BadSetting}
+use Rattle.rules_refusals.specs.declared.Verdict.the-variants.{Accepted}
+use Rattle.refusals.specs.Laws.{when-accepted}
+use Rattle.rules_pacing.specs.declared.LiveBandwidthMode.{LiveBandwidthMode}
+use Rattle.rules_pacing.specs.Period.{modeInRange}
+use Rattle.rules.specs.BookRules.{kept}
 use Rattle.rules.specs.Calls.{Answer, Call, Ran, answer, calls, records, recordsOf, runs, saidBy, stores}
 use Rattle.rules.specs.Losses.{Item, items, joined, runsOf, wordsOf}
 use Rattle.rules.specs.Numbers.{wire}
-use Rattle.rules_theorems.specs.Promises.{AllGiven, DemandThree, On, Quiet, Within, afterDrop}
+use Rattle.rules_theorems.specs.Demands.{AllGiven, DemandThree, On, Quiet, Within, afterDrop}
 use Rattle.rules.specs.Records.{sends}
 use Rattle.rules.specs.Refusals.{newVerdict}
 use Rattle.rules.specs.Reports.{payloadOf}
 use Rattle.rules.specs.Run.{run}
 use Rattle.rules.specs.Sender.{Sender, end, fresh, packet, sentOf}
 use Rattle.rules.specs.Settings.{Settings, inRange, placeOf, storeSize}
-use Rattle.rules.specs.Books.Laws.{Good, Kept, facts-kept}
-use Rattle.rules.specs.Calls.Laws.{answer-by, answer-taken}
-use Rattle.rules_theorems.specs.Promises.Losses.{AllWords, RunsOf}
-use Rattle.rules_theorems.specs.Promises.Store.{Holds, payloads}
-use Rattle.rules.specs.Run.Laws.{sweep}
+use Rattle.rules_theorems.specs.Laws.BookRules.{Good, Kept, facts-kept}
+use Rattle.rules_theorems.specs.Laws.Calls.{answer-by, answer-taken}
+use Rattle.rules_theorems.specs.Demands.Losses.{AllWords, RunsOf}
+use Rattle.rules_theorems.specs.Demands.Store.{Holds, payloads}
+use Rattle.rules_theorems.specs.Laws.Run.{sweep}
 use Rattle.rules_theorems.proofs.CallsKept.{calls-kept, fresh-kept}
-use Rattle.rules_theorems.proofs.Frame.{and-l, and-r}
 use Rattle.rules_theorems.proofs.Held.{calls-hold, fresh-holds}
 use Rattle.rules_theorems.proofs.Lists.{on-above, on-below}
 use Rattle.rules_theorems.proofs.Joined.{answer-maximal, answer-room}
@@ -83,7 +86,7 @@ module _ (c : Settings) where
     pub run-within : (p : ℕ) (s : Sender) → Within p (run c now draining p s .records)
     run-within p s = rw run-is (split-within c now draining p s)
 
-    -- "none for p = 0"; not even a record
+    -- "none for p = 0": not even a record
     pub run-none : (s : Sender) → run c now draining 0 s .records ≡ []
     run-none s = rw run-is (split-none c now draining s)
 
@@ -93,11 +96,11 @@ module _ (c : Settings) where
     unfolding sweep
     run-quiet p s g = rw run-is (split-quiet c now draining p s g)
 
-    -- budget left is p less sends, never below zero, also after a wait
+    -- the budget left is p less the sends, never below zero, also after a wait
     pub run-left : (p : ℕ) (s : Sender) → run c now draining p s .left ≡ p - sends (run c now draining p s .records)
     run-left p s = rw run-is (split-left c now draining p s)
 
-    -- the records of a run are within the room that is asked, with one to spare
+    -- a run's records fit in the room required, with one to spare
     pub run-room : (p : ℕ) (s : Sender) → Kept c s → length (run c now draining p s .records) + 1 ≤ min p (length (s .packets)) + 3
     run-room p s g = rw run-is (omega (arith, split-room c now draining p s (g .good)))
 
@@ -147,7 +150,8 @@ module _ (c : Settings) where
         few = answer-room s is;
       }
 
-  -- from a fresh sender, after any calls: the k-th packet ever pushed, while it is buffered, lies at (k mod capacity) × packet size
+  -- from a fresh sender, after any calls: the k-th packet ever pushed, while it is buffered, lies at (k mod capacity) ×
+  -- packet size
   pub payload-lies : (mode : LiveBandwidthMode) (ks : List Call) → newVerdict c mode ≡ Accepted → AllGiven ks
       → (k : ℕ) → calls c ks (fresh c mode) .front ≤ c .first + k → c .first + k < end (calls c ks (fresh c mode))
       → payloadOf c (calls c ks (fresh c mode)) (wire (c .first + k))
@@ -156,7 +160,7 @@ module _ (c : Settings) where
       payload-place c (calls c ks (fresh c mode)) (calls-kept c ks (fresh c mode) h (new-kept mode e))
       (calls-numbered c ks (fresh c mode) (fresh-numbered c mode))
 
-  -- and the store, at least as long as is needed, holds there what was pushed: byte j of the k-th payload lies at that place + j
+  -- and the store, if it is long enough, holds there what was pushed: byte j of the k-th payload is at that place + j
   pub payload-readable : (mode : LiveBandwidthMode) (ks : List Call) (store : List ℕ) → newVerdict c mode ≡ Accepted → AllGiven ks
       → storeSize c ≤ length store → Holds c (calls c ks (fresh c mode)) (stores c ks (fresh c mode) store) (payloads c ks (fresh c mode))
   payload-readable mode ks store e h big =

@@ -1,8 +1,8 @@
--- What is known of a call that is accepted, and of an ACK that is refused as stale: none of the tests before holds.
---   Pushable, Ackable, Runnable   what is known of an accepted message, ACK, run; message-taken, ack-taken, run-taken
---   ack-stale                     of an ACK with refusal 11: the books are kept, and the RTT that it brought is in range
---   not-kept, when-past           where the books break a rule every call answers 3; a refusal other than the first of a chain
--- Assumes nothing.
+-- What is known of an accepted call, and of an ACK refused as stale: none of the earlier tests holds.
+--   Pushable, Ackable, Runnable   what is known of an accepted message, ACK, run
+--   message-taken, ack-taken, run-taken   it holds
+--   ack-stale                     an ACK refused with 11: the books keep the rules, and its RTT is in range
+--   not-kept, when-past           if the books break a rule every call answers 3; a refusal after the first of a chain
 use mathlib.Core.Path.{_≡_, ap, refl}
 use mathlib.Core.Bool.{Bool, _||_, false, not, true, true≢false}
 use mathlib.Core.Option.{Option}
@@ -11,24 +11,21 @@ use native.Mathlib.Omega.{arith}
 use lib.Dec.{eqb, leb, ltb}
 use lib.ListN.{length}
 use borrow.Author.Tests.{leb-false, ltb-false, not-false}
-use Rattle.refusals.specs.declared.Refusal.{Refusal}
-use Rattle.refusals.specs.declared.Refusal.the-variants.{BadNumber, BadRtt, BadState, Empty, InvalidAck}
-use Rattle.refusals.specs.declared.Verdict.{Verdict}
-use Rattle.refusals.specs.declared.Verdict.the-variants.{Accepted, Refused}
-use Rattle.refusals.specs.Verdict.{verdictNumber, when}
-use Rattle.refusals.specs.Verdict.Laws.{when-accepted}
-use Rattle.refusals.specs.Table.{numberOf}
-use Rattle.rtt.specs.declared.Rtt.{Rtt}
+use Rattle.rules_refusals.specs.declared.Refusal.{Refusal}
+use Rattle.rules_refusals.specs.declared.Refusal.the-variants.{BadNumber, BadRtt, BadState, Empty, InvalidAck}
+use Rattle.rules_refusals.specs.declared.Verdict.{Verdict}
+use Rattle.rules_refusals.specs.declared.Verdict.the-variants.{Accepted, Refused}
+use Rattle.rules_refusals.specs.Verdict.{verdictNumber, when}
+use Rattle.refusals.specs.Laws.{never, when-accepted}
+use Rattle.rules_refusals.specs.Table.{numberOf}
+use Rattle.rules_numbers.specs.declared.Rtt.{Rtt}
 use Rattle.rules.specs.Ack.{ackOf}
-use Rattle.rules.specs.Books.{kept}
+use Rattle.rules.specs.BookRules.{kept}
 use Rattle.rules.specs.Numbers.{wire}
 use Rattle.rules.specs.Refusals.{ackVerdict, badRtt, countIsFull, fullVerdict, messageVerdict, runVerdict}
 use Rattle.rules.specs.Sender.{Sender, sentOf}
 use Rattle.rules.specs.Settings.{Settings}
-use Rattle.rules.specs.Books.Laws.{Kept, kept-facts}
-
-never : {A : Type 0} (r : Refusal) → Refused r ≡ Accepted → A
-never r e = absurd (let z : _≡_ {A = ℕ} 0 1 = cc in omega arith)
+use Rattle.rules_theorems.specs.Laws.BookRules.{Kept, kept-facts}
 
 differ : {A : Type 0} {r q : Refusal} → Refused r ≡ Refused q → ¬ (numberOf r ≡ numberOf q) → A
 differ {r = r} {q = q} e h = absurd (h (ap verdictNumber e))

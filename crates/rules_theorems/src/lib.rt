@@ -1,2 +1,2 @@
-// What holds of the rules after any calls whatsoever: the promises of the demands (specs/), and their proofs (proofs/Theorems.antt is the
-// index). No code.
+// What holds of the rules after any calls: the promises made to the demands (specs/), and their proofs (the index is
+// proofs/Theorems.antt). There is no code here.

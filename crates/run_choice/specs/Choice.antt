@@ -1,9 +1,8 @@
--- Which of rules 2 to 7 is the first that applies. Document 01, "Run": "While budget remains, the first that applies". A packet is named by its
--- place from the front; b are the books, and `ring` the ring's words.
---   ruleBy            the rule, by what each of them asks
---   dueAt now b ring  rule 3's choice
+-- Which of rules 2 to 7 is the first that applies. Document 01, "Run": "While budget remains, the first that applies".
+-- A packet is given by its index from the front; b are the books, `ring` the ring's words.
+--   ruleBy                         the rule, given what each of them tests
+--   dueAt now b ring               rule 3's choice
 --   ruleAt c now draining b ring   the first that applies
--- Assumes nothing.
 pub mod Laws
 use mathlib.Core.Bool.{Bool, true, false, _&&_}
 use mathlib.Core.List.{List}
@@ -18,7 +17,7 @@ use Rattle.buffer.specs.State.{packetsOf}
 use Rattle.run_choice.specs.declared.Rule.{Rule}
 use Rattle.run_choice.specs.declared.Rule.the-variants as rule
 
--- by the loss list's length, the packet that is due, whether the flow window is exceeded, whether any is unsent, whether the flush applies
+-- given the loss list's length, the packet due, whether the flow window is exceeded, any is unsent, the flush applies
 unfoldable pub ruleBy : ℕ → Option ℕ → Bool → Bool → Bool → Rule
 ruleBy (suc n) d over more last = rule.Loss
 ruleBy zero (some i) over more last = rule.Due i
@@ -27,7 +26,7 @@ ruleBy zero none false true last = rule.Unsent
 ruleBy zero none false false true = rule.Flush
 ruleBy zero none false false false = rule.Input
 
--- rule 3's choice, by its place from the front
+-- rule 3's choice, by its index from the front
 abbrev pub dueAt : ℕ → SendBuffer → List ℕ → Option ℕ
 dueAt now b ring = earliest now 0 (take (b .sent) (packetsOf (b .ring) ring))
 

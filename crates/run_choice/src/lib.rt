@@ -1,4 +1,4 @@
-// Which rule of a run applies: document 01, "Run", rules 1 to 7; the Rust's `SenderAlgorithmIterator` asks in the same order.
+// Which rule of a run applies: document 01, "Run", rules 1 to 7; the order of the Rust's `SenderAlgorithmIterator`.
 ghost use mathlib.Core.Path.{_≡_};
 ghost use Prim.Native.Nat.{_+_, _^_, _≤_, _<_};
 ghost use lib.Dec.{ltb, eqb};
@@ -14,7 +14,7 @@ use buffer::SendBuffer;
 use buffer::Settings;
 use ring::Entry;
 
-// The first of rules 2 to 7 that applies; a packet is named by its place from the front.
+// The first of rules 2 to 7 that applies; a packet is given by its index from the front.
 pub enum Rule {
     Loss,
     Due(usize),
@@ -24,13 +24,13 @@ pub enum Rule {
     Input,
 }
 
-// The packet that is to be sent again, by its place from the front, or none.
+// The packet due to be resent, by its index from the front, or none.
 pub enum Due {
     Nothing,
     At(usize),
 }
 
-// Whether the entry is late: now strictly past its full time and the window.
+// Whether the entry is late: now is strictly past its full time plus the window.
 fn is_late(e: Entry, c: Settings, ts_now: u64) -> bool
     requires { ⌜ (e .time < 2 ^ 48) × (c .latency ≤ 65_535_000) ⌝ }
     ensures { λ r. ⌜ r ≡ ltb (e .time + lateWindow (settingsOf c)) «ts_now» ⌝ }
@@ -39,7 +39,8 @@ fn is_late(e: Entry, c: Settings, ts_now: u64) -> bool
     time + (c.late_window() as u64) < ts_now
 }
 
-// How many packets rule 1 drops: from the front through every packet that is late or of the same message as the latest late one.
+// How many packets rule 1 drops: from the front through every packet that is late or of the same message as the latest
+// late one.
 pub fn late_packets(b: SendBuffer, c: Settings, ts_now: u64, ring: &[u64]) -> usize
     requires { ⌜ Readable (settingsOf c) (b .ring) (now ring) ⌝ }
     ensures { λ r. ⌜ r ≡ late (settingsOf c) «ts_now» (packetsOf (b .ring) (now (ring .entry))) ⌝ }
@@ -65,7 +66,7 @@ pub fn late_packets(b: SendBuffer, c: Settings, ts_now: u64, ring: &[u64]) -> us
     i
 }
 
-// The packet with the earliest resend time strictly before now, of two the one nearer the front.
+// The packet with the earliest resend time strictly before now; of two with the same time, the one nearer the front.
 pub fn earliest(b: SendBuffer, ts_now: u64, ring: &[u64]) -> Due
     requires { ⌜ Timed b (now ring) ⌝ }
     ensures { λ r. ⌜ optionOf r ≡ dueAt «ts_now» b (now (ring .entry)) ⌝ }

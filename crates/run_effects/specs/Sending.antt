@@ -1,14 +1,18 @@
--- What each rule of a run does to the lent areas. Document 01, "Run", rules 1 to 7. Packets and records are those of the rules, seen through
--- `view`; a packet is named by its place i from the front.
---   baseOf, stamped   "C = mean + 4 × variance + 20,000"; an entry after a sending
---   sentWords         the ring's words with packet i sent
---   Turned            what one turn does: the areas and books after it, its records, whether the run ends
---   dropped, lossTurn, dueTurn, windowTurn, unsentTurn, flushTurn, inputTurn   rules 1 to 7; nextTurn, sixteenTurn   the two of rule 5
---   sentAs            packet i is sent
---   nearest, popped   the number on the loss list nearest the front, the last there; the list without it
---   written           records into the list, "24 bytes" each: "Bytes after the last record stay."
---   Acted, Acts       the code did what a turn does
--- Assumes nothing.
+-- What each rule of a run does to the lent areas. Document 01, "Run", rules 1 to 7. Packets (by `view`) and records are
+-- those of the rules; a packet is given by its index i from the front.
+--   baseOf, stamped                      "C = mean + 4 × variance + 20,000"; an entry after a sending
+--   packetAt, numberAt                   packet i, and its number
+--   sentWords                            the ring's words with packet i sent
+--   Turned, idle                         what one turn does: the state after it, its records, whether the run ends; a
+--                                        turn that does nothing
+--   dropped, lossTurn, dueTurn, windowTurn, unsentTurn, flushTurn, inputTurn   rules 1 to 7
+--   nextTurn, isSixteenth, sixteenTurn   rule 5's two sendings, and the test of the second
+--   sentAs                               packet i is sent
+--   nearest, popped                      the number on the loss list nearest the front, its last; the list without it
+--   holding                              the books with the flushed packet
+--   written                              records written to the list, "24 bytes" each: "Bytes after the last record
+--                                        stay."
+--   Acted, Acts                          the code did what a turn does
 pub mod Laws
 pub mod Rules
 pub mod Stands
@@ -20,9 +24,9 @@ use Prim.Native.Nat.{ℕ, suc, _+_, _-_, _*_, _%_, min}
 use lib.Dec.{ltb, eqb}
 use lib.ListN.{length, take, getD}
 use lib.Seq.{paste}
-use Rattle.numbers.specs.declared.SeqNumber.{SeqNumber}
-use Rattle.numbers.specs.Modular.{seqs, plus, dist}
-use Rattle.rtt.specs.declared.Rtt.{Rtt}
+use Rattle.rules_numbers.specs.declared.SeqNumber.{SeqNumber}
+use Rattle.rules_numbers.specs.Modular.{seqs, plus, dist}
+use Rattle.rules_numbers.specs.declared.Rtt.{Rtt}
 use Rattle.ring.specs.declared.Entry.{Entry}
 use Rattle.ring.specs.Entry.{readE, writeE}
 use Rattle.ring.specs.Ring.{slotOf}
@@ -49,7 +53,7 @@ stamped now r e = record {
   resend = now + wait (baseOf r) (e .count);
 }
 
--- packet i, and the number that it has
+-- packet i, and its number
 abbrev pub packetAt : State → ℕ → Packet
 packetAt st i = getD (view st) i nothing
 
@@ -75,7 +79,7 @@ dropped k st = record {
   ends = false;
 }
 
--- packet i is sent, as kind k; `sent` packets are sent then
+-- packet i is sent, as kind k; `sent` packets are then sent
 unfoldable pub sentAs : Kind → ℕ → ℕ → ℕ → State → Turned
 sentAs k now i sent st =
     let b = st .books in
@@ -105,7 +109,8 @@ dueTurn now i st = sentAs ByTime now i (st .books .sent) st
 unfoldable pub windowTurn : State → Turned
 windowTurn st = record { state = st; records = waitAck (st .books .sent) ∷ []; ends = true }
 
--- 5. "Send the next unsent. If the one after it has a number divisible by 16 and is buffered, send it at once, also past budget and window."
+-- 5. "Send the next unsent. If the one after it has a number divisible by 16 and is buffered, send it at once, also
+-- past budget and window."
 abbrev pub nextTurn : ℕ → State → Turned
 nextTurn now st = sentAs Send now (st .books .sent) (st .books .sent + 1) st
 
@@ -141,17 +146,17 @@ flushTurn c st =
 unfoldable pub inputTurn : State → Turned
 inputTurn st = record { state = st; records = waitInput ∷ []; ends = true }
 
--- the records from place n of the list on; every byte behind them stays
+-- the records from index n of the list on; every byte behind them stays
 unfoldable pub written : ℕ → List Action → List ℕ → List ℕ
 written n [] out = out
 written n (a ∷ rs) out = written (suc n) rs (paste out (n * 24) (encode a) 24)
 
--- of the turn tn, where n records stand in the list already
+-- the code did the turn tn, with n records in the list before
 pub record Acted (tn : State → Turned) (before : State) (n : ℕ) (out : List ℕ) (after : State) (m : ℕ) (left : List ℕ) : Type 0 where
   pub state : after ≡ tn before .state
   pub count : m ≡ n + length (tn before .records)
   pub list : left ≡ written n (tn before .records) out
 
--- the same of code that does not see the loss list's area
+-- the same for code that doesn't see the loss list's area
 pub record Acts (tn : State → Turned) (b : SendBuffer) (ring : List ℕ) (n : ℕ) (out : List ℕ) (w : Written) (words left : List ℕ) : Type 0 where
   pub is : (lost : List ℕ) → Acted tn (state b ring lost) n out (state (w .buffer) words lost) (w .count) left

@@ -1,5 +1,5 @@
-// Rules 1 and 6, by which packets leave the buffer: document 01, "drop from the front ..; Loss entries go too; next unsent moves past them."
-// and "Draining with one packet buffered: send and remove it."
+// Rules 1 and 6, which remove packets from the buffer: document 01, "drop from the front ..; Loss entries go too; next
+// unsent moves past them." and "Draining with one packet buffered: send and remove it."
 ghost use Prim.Native.Nat.{_+_, _*_, _^_, _≤_, _<_};
 ghost use lib.ListN.{length};
 ghost use Rattle.buffer.specs.State.{settingsOf, state};
@@ -8,13 +8,13 @@ ghost use Rattle.run_effects.specs.Sending.{Acted, flushTurn};
 ghost use Rattle.run_effects.specs.Sending.Rules.{Flushable, Drops};
 use crate::Written;
 use crate::packet::send_record;
+use action_records::Kind;
+use action_records::Record;
 use buffer::Flushed;
 use buffer::SendBuffer;
 use buffer::Settings;
-use action_records::Kind;
-use action_records::Record;
 
-// Rule 1: `k` packets are dropped.
+// Rule 1: drops `k` packets.
 pub fn drop_too_late_packets(
     b: SendBuffer,
     k: usize,
@@ -27,7 +27,7 @@ pub fn drop_too_late_packets(
     ensures { λ r. ⌜ Drops k b (now (lost .entry)) n (now (out .entry)) r (now (out .exit)) ⌝ }
 {
     let front = b.front;
-    let to = front.plus(k as u32);
+    let to = numbers::plus(front, k as u32);
     Record::plain(Kind::Drop, front.0, to.0, 0).write(out, n);
     Written {
         buffer: b.remove(lost, k, b.bytes),
@@ -35,7 +35,7 @@ pub fn drop_too_late_packets(
     }
 }
 
-// Rule 6. The packet's payload is held from then on.
+// Rule 6. The packet's payload is held from now on.
 pub fn flush_on_close(
     b: SendBuffer,
     c: Settings,

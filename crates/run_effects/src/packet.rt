@@ -1,4 +1,5 @@
-// A sending: document 01, "Run", "Sends 2, 3 and 5 set the resend time ..", and "Action record"; the Rust's `send_packet`.
+// A sending: document 01, "Run", "Sends 2, 3 and 5 set the resend time ..", and "Action record"; the Rust's
+// `send_packet`.
 ghost use mathlib.Core.Path.{_≡_};
 ghost use Prim.Native.Nat.{_+_, _*_, _^_, _≤_, _<_, min};
 ghost use lib.ListN.{length};
@@ -7,14 +8,15 @@ ghost use Rattle.action_records.specs.Record.{kindOf};
 ghost use Rattle.run_effects.specs.Sending.{stamped, Acts, sentAs};
 ghost use Rattle.run_effects.specs.Sending.Laws.{Recorded, Sendable};
 use crate::Written;
-use buffer::SendBuffer;
-use numbers::SeqNumber;
 use action_records::Kind;
 use action_records::Record;
+use buffer::SendBuffer;
 use ring::Entry;
-use rtt::Rtt;
+use rules_numbers::Rtt;
+use rules_numbers::SeqNumber;
+use rules_numbers::TRANSMIT_MOST;
 
-// The longest that a resend is put off, in microseconds: 2^30 − 1.
+// The longest time to a resend, in microseconds: 2^30 − 1.
 const LONGEST: u64 = 0x3FFF_FFFF;
 
 fn smaller(a: u64, b: u64) -> u64
@@ -23,7 +25,7 @@ fn smaller(a: u64, b: u64) -> u64
     if a <= b { a } else { b }
 }
 
-// What is added to now for the resend time of a packet that was sent `count` times before.
+// The time from now to the resend, for a packet sent `count` times before.
 fn resend_after(base: u64, count: u64) -> u64
     requires { ⌜ (base ≤ 1_000_000_000) × (count ≤ 65_535) ⌝ }
     ensures { λ r. ⌜ r ≡ wait base count ⌝ }
@@ -46,12 +48,12 @@ fn stamped(e: Entry, ts_now: u64, rtt: Rtt) -> Entry
         message: e.message,
         place: e.place,
         len: e.len,
-        count: smaller(65_535, count + 1),
+        count: smaller(TRANSMIT_MOST, count + 1),
         resend: ts_now + resend_after(base, count),
     }
 }
 
-// The record of a sending: the packet as it was before it.
+// The record of a sending, made from the packet as it was before it.
 pub fn send_record(kind: Kind, number: SeqNumber, e: Entry) -> Record
     requires { ⌜ (e .time < 2 ^ 48) × (e .message < 2 ^ 26) × (e .len ≤ 1_456) ⌝ }
     ensures { λ r. ⌜ Recorded (kindOf kind) (number .0) e r ⌝ }
@@ -67,7 +69,7 @@ pub fn send_record(kind: Kind, number: SeqNumber, e: Entry) -> Record
     }
 }
 
-// All packets that stay in the buffer are sent here: packet `i` from the front is sent, and `sent` packets are sent then.
+// Sends packet `i` from the front, after which `sent` packets are sent. All rules but the flush send by this.
 pub fn send_packet(
     b: SendBuffer,
     kind: Kind,
@@ -86,7 +88,7 @@ pub fn send_packet(
     let front = b.front;
     let e = at.entry(ring, i);
     at.set_entry(ring, i, stamped(e, ts_now, b.rtt));
-    send_record(kind, front.plus(i as u32), e).write(out, n);
+    send_record(kind, numbers::plus(front, i as u32), e).write(out, n);
     Written {
         buffer: b.put(at, front, sent, b.lost, b.bytes),
         count: n + 1,

@@ -1,5 +1,5 @@
-// Rules 2 and 3: document 01, "Send the number on the loss list nearest the front, removing it there." and "Resend the packet with the earliest
-// resend time strictly before now".
+// Rules 2 and 3: document 01, "Send the number on the loss list nearest the front, removing it there." and "Resend the
+// packet with the earliest resend time strictly before now".
 ghost use Prim.Native.Nat.{_+_, _*_, _^_, _≤_, _<_};
 ghost use lib.ListN.{length};
 ghost use Rattle.buffer.specs.State.{state};
@@ -7,8 +7,8 @@ ghost use Rattle.run_effects.specs.Sending.{Acted, Acts, lossTurn, dueTu
 ghost use Rattle.run_effects.specs.Sending.Rules.{Standing, Losing};
 use crate::Written;
 use crate::packet::send_packet;
-use buffer::SendBuffer;
 use action_records::Kind;
+use buffer::SendBuffer;
 
 // Rule 2.
 pub fn send_next_lost_packet(
@@ -26,12 +26,12 @@ pub fn send_next_lost_packet(
     let at = b.ring;
     let front = b.front;
     let nearest = loss_list::nearest(lost, b.lost);
-    let i = front.distance(nearest) as usize;
+    let i = numbers::distance(front, nearest) as usize;
     let rest = b.put(at, front, b.sent, b.lost - 1, b.bytes);
     send_packet(rest, Kind::RetransmitNak, ts_now, i, b.sent, ring, out, n)
 }
 
-// Rule 3: packet `i` from the front is the one.
+// Rule 3, for packet `i` from the front.
 pub fn send_next_rto_packet(
     b: SendBuffer,
     ts_now: u64,

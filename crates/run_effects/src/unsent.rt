@@ -1,5 +1,5 @@
-// Rule 5: document 01, "Send the next unsent. If the one after it has a number divisible by 16 and is buffered, send it at once, also past
-// budget and window."
+// Rule 5: document 01, "Send the next unsent. If the one after it has a number divisible by 16 and is buffered, send it
+// at once, also past budget and window."
 ghost use Prim.Native.Nat.{_+_, _*_, _^_, _≤_, _<_};
 ghost use lib.ListN.{length};
 ghost use Rattle.run_effects.specs.Sending.{Acts, nextTurn, sixteenTurn, unsentTurn};
@@ -8,10 +8,10 @@ ghost use Rattle.run_effects.specs.Sending.Rules.{Standing};
 ghost use Rattle.run_effects.specs.Sending.Unsent.{Sixteen};
 use crate::Written;
 use crate::packet::send_packet;
-use buffer::SendBuffer;
 use action_records::Kind;
+use buffer::SendBuffer;
 
-// The next unsent packet is sent.
+// Sends the next unsent packet.
 fn send_next_packet(
     b: SendBuffer,
     ts_now: u64,
@@ -35,7 +35,7 @@ fn send_next_packet(
     )
 }
 
-// The packet after it is sent at once, where its number divides by 16 and it is buffered.
+// Sends the packet after it at once, if it is buffered and its number is divisible by 16.
 fn send_next_16n_packet(
     b: SendBuffer,
     ts_now: u64,
@@ -49,7 +49,7 @@ fn send_next_16n_packet(
 {
     let at = b.ring;
     let front = b.front;
-    let next = front.plus(b.sent);
+    let next = numbers::plus(front, b.sent);
     if (next.0 % 16 == 0) & ((b.sent as usize) < at.len) {
         return send_next_packet(b, ts_now, ring, out, n);
     }
@@ -59,7 +59,7 @@ fn send_next_16n_packet(
     }
 }
 
-// The two, one after the other.
+// Does both, one after the other.
 pub fn send_unsent(
     b: SendBuffer,
     ts_now: u64,

@@ -1,12 +1,13 @@
-// Rules 4 and 7, by which a run ends: document 01, "wait for ACK and end. The record says window 10,000." and "Wait for input and end."
+// Rules 4 and 7, which end a run: document 01, "wait for ACK and end. The record says window 10,000." and "Wait for
+// input and end."
 ghost use Prim.Native.Nat.{_+_, _*_, _≤_};
 ghost use lib.ListN.{length};
 ghost use Rattle.run_effects.specs.Sending.{windowTurn, inputTurn};
 ghost use Rattle.run_effects.specs.Sending.Rules.{Waits};
 use crate::Written;
-use buffer::SendBuffer;
 use action_records::Kind;
 use action_records::Record;
+use buffer::SendBuffer;
 
 // Rule 4.
 pub fn wait_for_ack(b: SendBuffer, out: &mut [u8], n: usize) -> Written

@@ -1,16 +1,16 @@
--- An ACK on the sender and its lent areas. Document 01, "ACK", and refusals 2, 3 and 7 to 11: "All stays as before; 11 alone keeps a new RTT."
---   ackVerdict g n rtt    refusals 2, 3, 7 and 8; the others are the crate ack's
---   acknowledged s a      the sender with the books that an ACK left
---   ack                   the call. The lent areas are only read
--- Assumes nothing.
+-- An ACK on the sender and its lent areas. Document 01, "ACK", and refusals 2, 3 and 7 to 11: "All stays as before; 11
+-- alone keeps a new RTT."
+--   ackVerdict g n rtt   refusals 2, 3, 7 and 8; the crate buffer_ack tests the others
+--   acknowledged s a     the sender with the books after an ACK
+--   ack                  the call. The lent areas are only read
 pub mod Laws
 pub mod Stands
 use Prim.Native.Nat.{ℕ, _^_}
 use lib.Dec.{leb}
-use Rattle.refusals.specs.declared.Refusal.the-variants.{BadNumber, BadRtt}
-use Rattle.refusals.specs.declared.Verdict.{Verdict}
-use Rattle.refusals.specs.declared.Verdict.the-variants.{Accepted}
-use Rattle.refusals.specs.Verdict.{when, answer}
+use Rattle.rules_refusals.specs.declared.Refusal.the-variants.{BadNumber, BadRtt}
+use Rattle.rules_refusals.specs.declared.Verdict.{Verdict}
+use Rattle.rules_refusals.specs.declared.Verdict.the-variants.{Accepted}
+use Rattle.rules_refusals.specs.Verdict.{when, answer}
 use Rattle.rules.specs.Refusals.{badRtt}
 use Rattle.buffer_ack.specs.declared.FullAck.{FullAck}
 use Rattle.buffer_ack.specs.declared.AckRtt.{AckRtt}
@@ -20,7 +20,7 @@ use Rattle.buffer_ack.specs.Ack.{rttOf, update}
 use Rattle.sender.specs.declared.Sender.{Sender}
 use Rattle.sender.specs.declared.Acknowledged.{Acknowledged}
 use Rattle.sender.specs.declared.Acknowledged.the-variants as acknowledged-as
-use Rattle.sender.specs.Books.{Books, stateOf, rulesOf, judgeAreas}
+use Rattle.sender.specs.SenderAndAreas.{Books, stateOf, rulesOf, judgeAreas}
 use Rattle.sender.specs.Calls.{senderOf, then}
 
 -- row 7, BadNumber: "a sequence number is 2^31 or more"; row 8, BadRtt: "mean or variance over its range"

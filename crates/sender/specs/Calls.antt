@@ -1,14 +1,16 @@
--- The calls on the sender and its lent areas: the answer, and every lent element at the end. Document 01, "Refusal numbers": "The lowest that
--- applies is given, with only what the table names. All stays as before; 11 alone keeps a new RTT."
---   made c mode                  a sender asked for
---   countIsFull s now n          row 6, for a message of n bytes
---   then v w                     the tests w after the tests v
---   shortFor, judgeWithStore g n row 2, and rows 2 and 3, with a store of n bytes
---   inputVerdict, messageVerdict refusals 4 to 6, and 2 to 6
---   finished c p paced           what an accepted message answers, from what was pushed and what pacing answered
---   Messages, area               the message's answer, and the lent areas at its end
---   done, message                an accepted message; the call
--- Assumes nothing.
+-- The calls on the sender and its lent areas: the answer, and every lent element afterwards. Document 01, "Refusal
+-- numbers": "The lowest that applies is given, with only what the table names. All stays as before; 11 alone keeps a
+-- new RTT."
+--   senderOf c b p                 a sender from its parts
+--   made c mode                    a request for a new sender
+--   countIsFull s now n            row 6, for a message of n bytes
+--   then v w                       the tests w after the tests v
+--   shortFor, judgeWithStore g n   row 2, and rows 2 and 3, with a store of n bytes
+--   inputVerdict, messageVerdict   refusals 4 to 6, and 2 to 6
+--   finished c p paced             the answer to an accepted message, from what was pushed and what pacing answered
+--                                  (messagedBy, pushedOf)
+--   Messages, area                 the answer to a message, and the lent areas afterwards
+--   done, doneBy, message          an accepted message; the call
 pub mod Laws
 pub mod Stands
 use mathlib.Core.Bool.{Bool, _||_}
@@ -16,24 +18,24 @@ use mathlib.Core.List.{List}
 use Prim.Native.Nat.{ℕ, _+_, _*_, _^_}
 use lib.Dec.{ltb, leb}
 use lib.ListN.{length}
-use Rattle.refusals.specs.declared.Refusal.the-variants.{BadTime, TooLong, CountFull}
-use Rattle.refusals.specs.declared.Verdict.{Verdict}
-use Rattle.refusals.specs.declared.Verdict.the-variants.{Accepted, Refused}
-use Rattle.refusals.specs.Verdict.{when, answer}
-use Rattle.encapsulate.specs.Split.{count}
-use Rattle.pacing.specs.declared.SenderCongestionControl.{SenderCongestionControl}
-use Rattle.pacing.specs.declared.Paced.{Paced}
-use Rattle.pacing.specs.declared.Paced.the-variants as paced
-use Rattle.pacing.specs.declared.options.LiveBandwidthMode.{LiveBandwidthMode}
-use Rattle.pacing.specs.Books as Pacing
-use Rattle.pacing.specs.Pacing.{countFull, input}
+use Rattle.rules_refusals.specs.declared.Refusal.the-variants.{BadTime, TooLong, CountFull}
+use Rattle.rules_refusals.specs.declared.Verdict.{Verdict}
+use Rattle.rules_refusals.specs.declared.Verdict.the-variants.{Accepted, Refused}
+use Rattle.rules_refusals.specs.Verdict.{when, answer}
+use Rattle.rules_packets.specs.Split.{count}
+use Rattle.rules_pacing.specs.declared.SenderCongestionControl.{SenderCongestionControl}
+use Rattle.rules_pacing.specs.declared.Paced.{Paced}
+use Rattle.rules_pacing.specs.declared.Paced.the-variants as paced
+use Rattle.rules_pacing.specs.declared.LiveBandwidthMode.{LiveBandwidthMode}
+use Rattle.rules_pacing.specs.Kept as Pacing
+use Rattle.rules_pacing.specs.Pacing.{countFull, input}
 use Rattle.rules.specs.Refusals.{newVerdict}
 use Rattle.buffer.specs.declared.Settings.{Settings}
 use Rattle.buffer.specs.declared.SendBuffer.{SendBuffer}
 use Rattle.buffer.specs.State.{settingsOf, fresh}
 use Rattle.buffer_push.specs.declared.Pushed.{Pushed}
 use Rattle.buffer_push.specs.Message as Message
-use Rattle.buffer_push.specs.Message.{Work, World}
+use Rattle.buffer_push.specs.Message.{Work, Pushing}
 use Rattle.sender.specs.declared.Sender.{Sender}
 use Rattle.sender.specs.declared.Made.{Made}
 use Rattle.sender.specs.declared.Made.the-variants as start
@@ -41,7 +43,7 @@ use Rattle.sender.specs.declared.NewPeriod.{NewPeriod}
 use Rattle.sender.specs.declared.NewPeriod.the-variants as period
 use Rattle.sender.specs.declared.Messaged.{Messaged}
 use Rattle.sender.specs.declared.Messaged.the-variants as messaged
-use Rattle.sender.specs.Books.{Books, stateOf, rulesOf, areasShort, storeShort, judge}
+use Rattle.sender.specs.SenderAndAreas.{Books, stateOf, rulesOf, areasShort, storeShort, judge}
 
 abbrev pub senderOf : Settings → SendBuffer → SenderCongestionControl → Sender
 senderOf c b p = record { settings = c; buffer = b; pacing = p }
@@ -50,7 +52,8 @@ senderOf c b p = record { settings = c; buffer = b; pacing = p }
 unfoldable pub made : Settings → LiveBandwidthMode → Made
 made c mode = answer start.Refused (newVerdict (settingsOf c) mode) (start.Ready (senderOf c (fresh (settingsOf c)) (Pacing.fresh mode)))
 
--- "byte count with the message's wire sizes is 2^62 or more; or packets or payload bytes since the last estimate .. pass 2^38"
+-- "byte count with the message's wire sizes is 2^62 or more; or packets or payload bytes since the last estimate ..
+-- pass 2^38"
 unfoldable pub countIsFull : Sender → ℕ → ℕ → Bool
 countIsFull s now n =
     let k = count (s .settings .size) n in
@@ -96,7 +99,7 @@ abbrev pub pushedOf : Work → Pushed
 pushedOf w = record { buffer = w .state .books; made = w .made; removed = w .removed; bytes = w .wire }
 
 -- what is pushed, and "pacing, which takes the packets made and their payload bytes"
-abbrev pub doneBy : Sender → ℕ → ℕ → World → Messages
+abbrev pub doneBy : Sender → ℕ → ℕ → Pushing → Messages
 doneBy s now n w =
     area (finished (s .settings) (pushedOf (w .work)) (input (s .pacing) now (w .work .made) n)) (w .work .state .ring) (w .work .state .lost) (w .store)
 

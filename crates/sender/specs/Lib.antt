@@ -1,3 +1,3 @@
 pub mod Acks
-pub mod Books
+pub mod SenderAndAreas
 pub mod Calls

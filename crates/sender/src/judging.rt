@@ -1,28 +1,25 @@
-// What refuses a call of the sender: document 01, "Refusal numbers", 2 to 8. The calls of the crates above ask for 2 and 3 here too.
-//   judge_areas, judge_with_store              2 and 3, of the areas that a call is lent
-//   then                                       further tests, where the first accept
-//   count_is_full, judge_input, judge_message  4 to 6, and all of a message's
-//   rtt_is_bad, judge_ack                      7 and 8, and all of an ACK's but 9 to 11
+// The tests that refuse a call of the sender: document 01, "Refusal numbers", 2 to 8. The crates above use 2 and 3 too.
+//   judge_areas, judge_with_store              2 and 3, for the areas that a call is lent
+//   then                                       further tests, after the first have accepted
+//   count_is_full, judge_input, judge_message  6; 4 to 6; and all tests of a message
+//   rtt_is_bad, judge_ack                      8; and all tests of an ACK but 9 to 11
 ghost use mathlib.Core.Path.{_≡_};
 ghost use Prim.Native.Nat.{_≤_};
 ghost use Rattle.rules.specs.Refusals.{badRtt};
 ghost use Rattle.buffer.specs.State.{settingsOf};
 ghost use Rattle.buffer_ack.specs.Ack.{rttOf};
-ghost use Rattle.sender.specs.Books.{books, areasShort, storeShort, kept, judge, judgeAreas};
+ghost use Rattle.sender.specs.SenderAndAreas.{books, areasShort, storeShort, kept, judge, judgeAreas};
 ghost use Rattle.sender.specs.Acks.{ackVerdict};
 ghost use Rattle.sender.specs.Calls.{then, judgeWithStore, countIsFull, inputVerdict, messageVerdict};
 ghost use Rattle.sender.specs.Calls.Laws.{Counting};
 use crate::Sender;
-use buffer_ack::AckRtt;
 use buffer::Settings;
-use refusals::Refusal;
-use refusals::Verdict;
-
-const TIME_LIMIT: u64 = 1 << 48;
-
-const BYTES_LIMIT: u64 = 1 << 62;
-
-const LENGTH_MOST: usize = 1_048_576;
+use buffer_ack::AckRtt;
+use rules_numbers::BYTES_LIMIT;
+use rules_numbers::LENGTH_MOST;
+use rules_numbers::TIME_LIMIT;
+use rules_refusals::Refusal;
+use rules_refusals::Verdict;
 
 // Whether the ring's area or the loss list's is too short for the capacity.
 fn areas_short(c: Settings, ring: usize, lost: usize) -> bool
@@ -50,7 +47,7 @@ fn kept(s: Sender, ring: &[u64], lost: &[u32]) -> bool
     ensures { λ r. ⌜ r ≡ kept (books s (now (ring .entry)) (now (lost .entry))) ⌝ }
 {
     let pacing = s.pacing;
-    book_rules::kept(s.buffer, s.settings, ring, lost) & pacing.kept()
+    book_rules::kept(s.buffer, s.settings, ring, lost) & pacing::kept(pacing)
 }
 
 // Refuses BadStore and BadState.
@@ -62,7 +59,7 @@ fn judge(s: Sender, ring: &[u64], lost: &[u32], short: bool) -> Verdict
     refusals::when(short, Refusal::BadStore, state)
 }
 
-// Refuses BadStore and BadState, of a call that is lent the ring and the loss list alone.
+// Refuses BadStore and BadState, for a call that is lent only the ring and the loss list.
 pub fn judge_areas(s: Sender, ring: &[u64], lost: &[u32]) -> Verdict
     ensures { λ r. ⌜ r ≡ judgeAreas (books s (now (ring .entry)) (now (lost .entry))) ⌝ }
 {
@@ -70,7 +67,7 @@ pub fn judge_areas(s: Sender, ring: &[u64], lost: &[u32]) -> Verdict
     judge(s, ring, lost, short)
 }
 
-// Refuses BadStore and BadState, of a call that is lent a store of so many bytes, too.
+// Refuses BadStore and BadState, for a call that is also lent a store of this many bytes.
 pub fn judge_with_store(s: Sender, ring: &[u64], lost: &[u32], store: usize) -> Verdict
     ensures { λ r. ⌜ r ≡ judgeWithStore (books s (now (ring .entry)) (now (lost .entry))) store ⌝ }
 {
@@ -79,7 +76,7 @@ pub fn judge_with_store(s: Sender, ring: &[u64], lost: &[u32], store: usize) -> 
     judge(s, ring, lost, short)
 }
 
-// What the second tests come to, where the first accept.
+// The verdict of `rest` if the first tests accept.
 pub fn then(first: Verdict, rest: Verdict) -> Verdict
     ensures { λ r. ⌜ r ≡ then first rest ⌝ }
 {
@@ -89,7 +86,7 @@ pub fn then(first: Verdict, rest: Verdict) -> Verdict
     }
 }
 
-// Row 6: the byte count with this message's wire sizes, or what pacing counts.
+// Row 6: whether the byte count, with this message's wire sizes, or what pacing counts would pass its limit.
 fn count_is_full(s: Sender, now_: u64, n: usize) -> bool
     requires { ⌜ Counting s × (n ≤ 1_048_576) ⌝ }
     ensures { λ r. ⌜ r ≡ countIsFull s «now_» n ⌝ }
@@ -99,7 +96,7 @@ fn count_is_full(s: Sender, now_: u64, n: usize) -> bool
     let pacing = s.pacing;
     let k = encapsulate::count(n, c.size as usize) as u64;
     let sum = b.bytes + n as u64 + k * c.overhead as u64;
-    (BYTES_LIMIT <= sum) | pacing.count_full(now_, k, n as u64)
+    (BYTES_LIMIT <= sum) | pacing::count_full(pacing, now_, k, n as u64)
 }
 
 // Refuses BadTime, TooLong and CountFull.
@@ -143,7 +140,7 @@ fn rtt_is_bad(rtt: AckRtt) -> bool
 {
     match rtt {
         AckRtt::None => false,
-        AckRtt::Measured(brought) => !brought.in_range(),
+        AckRtt::Measured(brought) => !rtt::in_range(brought),
     }
 }
 

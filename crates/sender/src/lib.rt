@@ -1,32 +1,32 @@
-// The sender's calls: document 01, "Sending rules"; the Rust's sender/mod.rs. Each takes any input and refuses what the module judging says; the
-// areas that it works in are lent at each call.
-//   new, message, ack   the calls, of `Sender`, and the types of their answers
+// The sender's calls: document 01, "Sending rules"; the Rust's sender/mod.rs. Each takes any input; the module judging
+// decides what is refused. The areas they work in are lent for each call.
+//   new, message, ack   the calls, on `Sender`, and the types of their answers
 //   push, finished      a message that no test refuses
 //   acknowledge         an ACK's answer
 ghost use mathlib.Core.Path.{_≡_};
-ghost use Rattle.sender.specs.Books.{books};
+ghost use Rattle.sender.specs.SenderAndAreas.{books};
 ghost use Rattle.sender.specs.Acks.{acknowledged, ack};
 ghost use Rattle.sender.specs.Calls.{made, messagedBy, finished, area, done, message};
 ghost use Rattle.sender.specs.Calls.Laws.{Pushable};
 use crate::judging::judge_ack;
 use crate::judging::judge_message;
+use buffer::SendBuffer;
+use buffer::Settings;
 use buffer_ack::AckAction;
 use buffer_ack::AckRtt;
 use buffer_ack::Acked;
 use buffer_ack::FullAck;
-use buffer::SendBuffer;
-use buffer::Settings;
 use buffer_push::Pushed;
-use numbers::SeqNumber;
-use pacing::Paced;
-use pacing::SenderCongestionControl;
-use pacing::options::LiveBandwidthMode;
-use refusals::Refusal;
-use refusals::Verdict;
+use rules_numbers::SeqNumber;
+use rules_pacing::LiveBandwidthMode;
+use rules_pacing::Paced;
+use rules_pacing::SenderCongestionControl;
+use rules_refusals::Refusal;
+use rules_refusals::Verdict;
 
 pub mod judging;
 
-// All that a sender keeps beside the lent areas.
+// Everything that a sender keeps besides the lent areas.
 pub struct Sender {
     pub settings: Settings,
     pub buffer: SendBuffer,
@@ -39,13 +39,13 @@ pub enum Made {
     Refused(Refusal),
 }
 
-// The period that a message brings, in microseconds, or that it brings none.
+// The new period after a message, in microseconds, if there is one.
 pub enum NewPeriod {
     None,
     Set(u64),
 }
 
-// What an accepted message came to: packets made, packets removed, wire bytes removed, and any new period.
+// What an accepted message did: packets made, packets removed, wire bytes removed, and any new period.
 pub struct Answer {
     pub made: usize,
     pub removed: usize,
@@ -53,19 +53,19 @@ pub struct Answer {
     pub period: NewPeriod,
 }
 
-// The answer of `message`; where it is refused the caller's sender stands.
+// The answer of `message`. If it is refused, the caller's sender is unchanged.
 pub enum Messaged {
     Done(Sender, Answer),
     Refused(Refusal),
 }
 
-// The answer of `ack`, with the sender from then on: a stale full number leaves a new round-trip time in it.
+// The answer of `ack`, with the sender from then on: after a stale full ACK it has the new round-trip time.
 pub enum Acknowledged {
     Done(Sender, AckAction),
     Refused(Sender, Refusal),
 }
 
-// What was pushed, with pacing from then on and any new period.
+// The answer from what was pushed, the new pacing and any new period.
 fn answered(c: Settings, p: Pushed, pacing: SenderCongestionControl, period: NewPeriod) -> Messaged
     ensures { λ r. ⌜ r ≡ messagedBy c p pacing period ⌝ }
 {
@@ -85,7 +85,7 @@ fn answered(c: Settings, p: Pushed, pacing: SenderCongestionControl, period: New
     )
 }
 
-// What an accepted message answers.
+// The answer to an accepted message.
 fn finished(c: Settings, p: Pushed, paced: Paced) -> Messaged
     ensures { λ r. ⌜ r ≡ finished c p paced ⌝ }
 {
@@ -113,11 +113,11 @@ fn push(
     let c = s.settings;
     let pacing = s.pacing;
     let p = buffer_push::push_message(s.buffer, c, time, payload, ring, lost, store);
-    let paced = pacing.on_input(now_, p.made as u64, payload.len() as u64);
+    let paced = pacing::on_input(pacing, now_, p.made as u64, payload.len() as u64);
     finished(c, p, paced)
 }
 
-// The sender with the books that an ACK left.
+// The sender with the books after an ACK.
 fn acknowledge(s: Sender, acked: Acked) -> Acknowledged
     ensures { λ r. ⌜ r ≡ acknowledged s acked ⌝ }
 {
@@ -144,16 +144,16 @@ fn acknowledge(s: Sender, acked: Acked) -> Acknowledged
 }
 
 impl Sender {
-    // A sender at its start. Refuses BadSetting.
+    // A new sender. Refuses BadSetting.
     pub fn new(settings: Settings, mode: LiveBandwidthMode) -> Made
         ensures { λ r. ⌜ r ≡ made settings mode ⌝ }
     {
         if !book_rules::settings_in_range(settings) {
             return Made::Refused(Refusal::BadSetting);
         }
-        match SenderCongestionControl::new(mode) {
-            pacing::Made::Refused(r) => Made::Refused(r),
-            pacing::Made::Control(pacing) => Made::Ready(Sender {
+        match pacing::new(mode) {
+            rules_pacing::Made::Refused(r) => Made::Refused(r),
+            rules_pacing::Made::Control(pacing) => Made::Ready(Sender {
                 settings,
                 buffer: SendBuffer::new(settings),
                 pacing,
@@ -161,7 +161,7 @@ impl Sender {
         }
     }
 
-    // A message with its time, brought at `now_`. Refuses BadStore, BadState, BadTime, TooLong and CountFull.
+    // A message with its time, pushed at `now_`. Refuses BadStore, BadState, BadTime, TooLong and CountFull.
     pub fn message(
         self,
         time: u64,
@@ -180,8 +180,8 @@ impl Sender {
         }
     }
 
-    // An ACK with the full number and the round-trip time that it may bring. Refuses BadStore, BadState, BadNumber, BadRtt, Empty, InvalidAck
-    // and StaleFullAck.
+    // An ACK with its full number and round-trip time, if it has them. Refuses BadStore, BadState, BadNumber, BadRtt,
+    // Empty, InvalidAck and StaleFullAck.
     pub fn ack(
         self,
         ack_number: u32,

@@ -3,7 +3,7 @@ use crate::show;
 use buffer_ack::AckAction;
 use buffer_ack::AckRtt;
 use buffer_ack::FullAck;
-use rtt::Rtt;
+use rules_numbers::Rtt;
 use sender::Acknowledged;
 use sender::Sender;
 use stored::Record;

@@ -1,7 +1,7 @@
 // A loss report of up to ten words.
 ghost use Prim.Native.Nat.{_≤_};
 use crate::show;
-use answers::Reported;
+use nak::Reported;
 use sender::Sender;
 use stored::Record;
 use stored::at_most;
@@ -67,7 +67,7 @@ fn first(words: &[u32], n: usize) -> &[u32] {
 }
 
 fn report(s: Sender, words: &[u32], ring: &[u64], lost: &mut [u32], out: &mut [u32]) -> Sender {
-    match answers::nak(s, words, ring, lost, out) {
+    match nak::nak(s, words, ring, lost, out) {
         Reported::Refused(why) => {
             show::refused(why);
             s

@@ -1,8 +1,8 @@
 // The reports, and a payload.
 use crate::show;
-use answers::BufferReports;
-use answers::Found;
-use answers::Told;
+use payload::Found;
+use reports::BufferReports;
+use reports::Told;
 use sender::Sender;
 
 fn show_reports(b: BufferReports) {
@@ -14,14 +14,14 @@ fn show_reports(b: BufferReports) {
 }
 
 pub(crate) fn reports(s: Sender, ring: &[u64], lost: &[u32]) {
-    match answers::reports(s, ring, lost) {
+    match reports::reports(s, ring, lost) {
         Told::Refused(why) => show::refused(why),
         Told::Known(b) => show_reports(b),
     }
 }
 
 pub(crate) fn payload(s: Sender, number: u32, ring: &[u64], lost: &[u32], store: &[u8]) {
-    match answers::payload(s, number, ring, lost, store) {
+    match payload::payload(s, number, ring, lost, store) {
         Found::Refused(why) => show::refused(why),
         Found::Held(lies) => {
             show::decimal(b"payload", lies.len as u64);

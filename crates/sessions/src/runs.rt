@@ -1,8 +1,8 @@
 // A run.
 ghost use Prim.Native.Nat.{_≤_};
 use crate::show;
+use run::Ran;
 use sender::Sender;
-use sender_run::Ran;
 use stored::Record;
 use stored::at_most;
 use stored::low;
@@ -36,7 +36,7 @@ fn show_records(out: &[u8], n: usize)
 }
 
 fn run(s: Sender, r: Record, ring: &mut [u64], lost: &mut [u32], out: &mut [u8]) -> Sender {
-    match sender_run::run(s, r.a, low(r.b), r.c == 1, ring, lost, out) {
+    match run::run(s, r.a, low(r.b), r.c == 1, ring, lost, out) {
         Ran::Refused(why) => {
             show::refused(why);
             s

@@ -1,7 +1,7 @@
 // What the answers are made of: docs/SCRIPTS.md, "The sender".
 ghost use Prim.Native.Nat.{_<_};
 use libc::STDOUT_FILENO;
-use refusals::Refusal;
+use rules_refusals::Refusal;
 
 pub(crate) fn text(bytes: &[u8]) {
     io::write_all(STDOUT_FILENO, bytes);
@@ -87,6 +87,6 @@ fn name(r: Refusal) {
 }
 
 pub(crate) fn refused(r: Refusal) {
-    decimal(b"refused", r.number() as u64);
+    decimal(b"refused", refusals::number(r) as u64);
     name(r);
 }

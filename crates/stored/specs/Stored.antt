@@ -1,18 +1,14 @@
 -- The 64 bytes of a stored call.
---   half bs at      four bytes from `at`, the lowest first
---   number bs at    eight
+--   number bs at    the number of the eight bytes from `at`, the lowest first (crate rules_numbers, Bytes)
 --   call bs         the operation and its seven arguments
--- Assumes nothing.
-use Prim.Native.Nat.{ℕ, _+_, _*_, _^_}
+use Prim.Native.Nat.{ℕ, _+_}
 use mathlib.Core.List.{List}
-use lib.ListN.{getD}
+use lib.Seq.{slice}
+use Rattle.rules_numbers.specs.Bytes.{fromLittle}
 use Rattle.stored.specs.declared.Record.{Record}
 
-abbrev pub half : List ℕ → ℕ → ℕ
-half bs at = getD bs at 0 + getD bs (at + 1) 0 * 2 ^ 8 + (getD bs (at + 2) 0 + getD bs (at + 3) 0 * 2 ^ 8) * 2 ^ 16
-
 abbrev pub number : List ℕ → ℕ → ℕ
-number bs at = half bs at + half bs (at + 4) * 2 ^ 32
+number bs at = fromLittle (slice at (at + 8) bs)
 
 abbrev pub call : List ℕ → Record
 call bs = record {

@@ -1,8 +1,8 @@
 // Stored calls, which the programs replay: eight numbers of eight bytes, each with its lowest byte first. The first is the operation, the
 // others its arguments.
 ghost use mathlib.Core.Path.{_≡_};
-ghost use Prim.Native.Nat.{_+_, _*_, _≤_, _%_, _/_, _^_, min};
-ghost use Rattle.stored.specs.Stored.{half, number, call};
+ghost use Prim.Native.Nat.{_≤_, _%_, _/_, _^_, min};
+ghost use Rattle.stored.specs.Stored.{number, call};
 
 pub struct Record {
     pub operation: u64,
@@ -15,33 +15,11 @@ pub struct Record {
     pub g: u64,
 }
 
-fn wide(b: u8) -> u64
-    ensures { λ r. ⌜ r ≡ b ⌝ }
-    ensures { λ r. ⌜ r ≤ 255 ⌝ }
-{
-    b as u64
-}
-
-fn pair(low: u8, high: u8) -> u64
-    ensures { λ r. ⌜ r ≡ low + high * 2 ^ 8 ⌝ }
-    ensures { λ r. ⌜ r ≤ 0xffff ⌝ }
-{
-    wide(low) + wide(high) * 0x100
-}
-
-fn half(bytes: &[u8; 64], at: usize) -> u64
-    requires { ⌜ at ≤ 60 ⌝ }
-    ensures { λ r. ⌜ r ≡ half (now (bytes .entry)) at ⌝ }
-    ensures { λ r. ⌜ r ≤ 0xffff_ffff ⌝ }
-{
-    pair(bytes[at], bytes[at + 1]) + pair(bytes[at + 2], bytes[at + 3]) * 0x1_0000
-}
-
 fn number(bytes: &[u8; 64], at: usize) -> u64
     requires { ⌜ at ≤ 56 ⌝ }
     ensures { λ r. ⌜ r ≡ number (now (bytes .entry)) at ⌝ }
 {
-    half(bytes, at) + half(bytes, at + 4) * 0x1_0000_0000
+    octets::little_at(bytes, at, 8)
 }
 
 // The call that 64 bytes hold.

@@ -1,3 +1,1 @@
-pub mod Checks
-pub mod Examples
-pub mod Wake
+pub mod Always

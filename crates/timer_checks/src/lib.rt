@@ -1,35 +1,22 @@
-// What a check of a timer gives: document 01, "Timers"; the Rust's `check_snd` and its kin in time/mod.rs, and the idle timer behind EXP.
-// When the host must wake is in `wake`. Nanoseconds.
+// Checking a timer: document 01, "Timers"; the Rust's `check_snd` and the like in time/mod.rs, and the idle timer,
+// which depends on EXP. When the host must wake is in `wake`. Times are nanoseconds.
 ghost use mathlib.Core.Path.{_≡_};
 ghost use Prim.Native.Nat.{_+_, min};
-ghost use Rattle.timer.specs.Timer.{most};
-ghost use Rattle.timer_checks.specs.Checks.{timerOf, withTimer, check, checkSnd, checkFullAck, checkNak, checkStatistics, heard, idleAfter, idle, checkPeerIdleTimeout};
-use refusals::Refusal;
-use refusals::Verdict;
-use timer::Elapsed;
-use timer::Timer;
-use timers::Timers;
+ghost use Rattle.rules_timers.specs.Timer.{most};
+ghost use Rattle.rules_timers.specs.Checks.{timerOf, withTimer, check, checkSnd, checkFullAck, checkNak, checkStatistics, heard, idleAfter, idle, checkPeerIdleTimeout};
+use rules_refusals::Verdict;
+use rules_timers::Elapsed;
+use rules_timers::Timer;
+use rules_timers::Timers;
+use rules_timers::TimersChecked;
+use rules_timers::Which;
 
 pub mod wake;
 
-// The idle timer is heard only where EXP's count is over this.
+// The idle timer is reported only if EXP's count is over this.
 const EXP_MAX: u32 = 16;
 
-// The timers that have a check of their own.
-pub enum Which {
-    Snd,
-    FullAck,
-    Nak,
-    Statistics,
-}
-
-// One of the timers checked: what it gives, and the timers after it.
-pub enum TimersChecked {
-    Done(Elapsed, Timers),
-    Refused(Refusal),
-}
-
-// The timer that a check speaks of.
+// The timer that a check concerns.
 fn timer_of(timers: Timers, which: Which) -> Timer
     ensures { λ r. ⌜ r ≡ timerOf which timers ⌝ }
 {
@@ -41,7 +28,7 @@ fn timer_of(timers: Timers, which: Which) -> Timer
     }
 }
 
-// The timers with another one in its place.
+// The timers with that one replaced.
 fn with_timer(timers: Timers, which: Which, timer: Timer) -> Timers
     ensures { λ r. ⌜ r ≡ withTimer which timer timers ⌝ }
 {
@@ -58,10 +45,10 @@ fn with_timer(timers: Timers, which: Which, timer: Timer) -> Timers
 fn check(timers: Timers, which: Which, now: u64) -> TimersChecked
     ensures { λ r. ⌜ r ≡ check which timers now ⌝ }
 {
-    match timers.judge(now) {
+    match timers::judge(timers, now) {
         Verdict::Refused(r) => TimersChecked::Refused(r),
         Verdict::Accepted => {
-            let t = timer_of(timers, which).tick(now);
+            let t = timer::tick(timer_of(timers, which), now);
             let elapsed = t.elapsed;
             let moved = t.timer;
             TimersChecked::Done(elapsed, with_timer(timers, which, moved))
@@ -93,7 +80,7 @@ pub fn check_statistics(timers: Timers, now: u64) -> TimersChecked
     check(timers, Which::Statistics, now)
 }
 
-// Whether the idle timer is heard: it has expired, and EXP often enough.
+// Whether the idle timer is reported: it has expired, and EXP often enough.
 fn heard(elapsed: Elapsed, often: bool) -> bool
     ensures { λ r. ⌜ r ≡ heard elapsed often ⌝ }
 {
@@ -103,7 +90,7 @@ fn heard(elapsed: Elapsed, often: bool) -> bool
     }
 }
 
-// EXP's count goes up, held at its end.
+// EXP's count plus 1, held at 2^32 − 1.
 fn one_more(count: u32) -> u32
     ensures { λ r. ⌜ r ≡ min most (count + 1) ⌝ }
 {
@@ -114,13 +101,13 @@ fn one_more(count: u32) -> u32
     }
 }
 
-// EXP has expired and become `exp`: the idle timer is checked, and moves on even where it is not heard.
+// After EXP has expired and become `exp`: the idle timer is checked, and moves on even if it isn't reported.
 fn idle_after(timers: Timers, exp: Timer, now: u64) -> TimersChecked
     ensures { λ r. ⌜ r ≡ idleAfter timers exp now ⌝ }
 {
     let idle = timers.peer_idle;
     let count = timers.exp_count;
-    let t = idle.tick(now);
+    let t = timer::tick(idle, now);
     let elapsed = t.elapsed;
     let moved = t.timer;
     let mut after = timers;
@@ -133,12 +120,12 @@ fn idle_after(timers: Timers, exp: Timer, now: u64) -> TimersChecked
     TimersChecked::Done(Elapsed::Nothing, after)
 }
 
-// Nothing at all happens unless EXP has expired.
+// Nothing happens unless EXP has expired.
 fn idle(timers: Timers, now: u64) -> TimersChecked
     ensures { λ r. ⌜ r ≡ idle timers now ⌝ }
 {
     let exp = timers.exp;
-    let t = exp.tick(now);
+    let t = timer::tick(exp, now);
     let elapsed = t.elapsed;
     let moved = t.timer;
     match elapsed {
@@ -150,7 +137,7 @@ fn idle(timers: Timers, now: u64) -> TimersChecked
 pub fn check_peer_idle_timeout(timers: Timers, now: u64) -> TimersChecked
     ensures { λ r. ⌜ r ≡ checkPeerIdleTimeout timers now ⌝ }
 {
-    match timers.judge(now) {
+    match timers::judge(timers, now) {
         Verdict::Refused(r) => TimersChecked::Refused(r),
         Verdict::Accepted => idle(timers, now),
     }

@@ -1,21 +1,16 @@
 // When the host must wake: document 01, "Timers"; the Rust's `next_timer` in time/mod.rs.
 ghost use mathlib.Core.Path.{_≡_};
 ghost use Prim.Native.Nat.{min};
-ghost use Rattle.timer.specs.Timer.Laws.{Kept};
-ghost use Rattle.timers.specs.Timers.Laws.{KeptAll};
-ghost use Rattle.timer_checks.specs.Wake.{sooner, messageOr, wake, tooLate, judgeNext, nextTimer};
+ghost use Rattle.timer.specs.Laws.{Kept};
+ghost use Rattle.timers.specs.Laws.{KeptAll};
+ghost use Rattle.rules_timers.specs.Wake.{sooner, messageOr, wake, tooLate, judgeNext, nextTimer};
 use rtt_periods::larger;
-use refusals::Refusal;
-use refusals::Verdict;
-use timer::Nanoseconds;
-use timer::Timer;
-use timers::Timers;
-
-// When the host will bring its next message, if it knows.
-pub enum NextMessage {
-    Unknown,
-    At(u64),
-}
+use rules_refusals::Refusal;
+use rules_refusals::Verdict;
+use rules_timers::Nanoseconds;
+use rules_timers::NextMessage;
+use rules_timers::Timer;
+use rules_timers::Timers;
 
 fn smaller(a: u64, b: u64) -> u64
     ensures { λ r. ⌜ r ≡ min a b ⌝ }
@@ -23,7 +18,7 @@ fn smaller(a: u64, b: u64) -> u64
     if a <= b { a } else { b }
 }
 
-// The next instant of a timer, where it has a say and is sooner.
+// The next instant of a timer, if it counts and is sooner than `instant`.
 fn sooner(on: bool, t: Timer, instant: u64) -> u64
     requires { ⌜ Kept t ⌝ }
     ensures { λ r. ⌜ r ≡ sooner on t instant ⌝ }
@@ -64,19 +59,19 @@ fn too_late(message: NextMessage) -> bool
 {
     match message {
         NextMessage::Unknown => false,
-        NextMessage::At(time) => timer::TIME_LIMIT <= time,
+        NextMessage::At(time) => rules_timers::INSTANT_LIMIT <= time,
     }
 }
 
 fn judge_next(timers: Timers, now: u64, message: NextMessage) -> Verdict
     ensures { λ r. ⌜ r ≡ judgeNext timers now message ⌝ }
 {
-    let late = (timer::TIME_LIMIT <= now) | too_late(message);
+    let late = (rules_timers::INSTANT_LIMIT <= now) | too_late(message);
     let rest = refusals::when(late, Refusal::BadTime, Verdict::Accepted);
-    refusals::when(!timers.kept(), Refusal::BadState, rest)
+    refusals::when(!timers::kept(timers), Refusal::BadState, rest)
 }
 
-// When the host must wake at the latest. It sees no due resend but by EXP and NAK, as the Rust does.
+// The latest time by which the host must wake. As in the Rust, a due resend wakes it only through EXP or NAK.
 pub fn next_timer(
     timers: Timers,
     now: u64,

@@ -1,2 +1,2 @@
-pub mod Examples
-pub mod Timers
+pub mod Laws
+pub mod Always

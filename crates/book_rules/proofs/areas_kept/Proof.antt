@@ -1,5 +1,4 @@
--- `book_rules::areas_kept` meets its contract: the ring by its own test, and the two by the capacity.
--- Assumes nothing.
+-- `book_rules::areas_kept` meets its contract: the ring by its own test, both areas by the capacity.
 use borrow.Author.Needs.{needs}
 use Rattle.book_rules.specs.Kept.{areasKept}
 use Rattle.book_rules.proofs.areas_kept.Statement.{statement}

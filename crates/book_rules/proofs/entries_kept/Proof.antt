@@ -1,5 +1,4 @@
--- `book_rules::entries_kept` meets its contract: the sent packets are the first run, the others the second.
--- Assumes nothing.
+-- `book_rules::entries_kept` meets its contract: the sent packets are the first run, the unsent ones the second.
 use borrow.Author.Needs.{needs}
 use Rattle.book_rules.specs.Kept.Entries.{entries-is}
 use Rattle.book_rules.proofs.entries_kept.Statement.{statement}

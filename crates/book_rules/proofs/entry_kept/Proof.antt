@@ -1,5 +1,4 @@
--- `book_rules::entry_kept` meets its contract: the entry of a packet that is sent, or of one that is not.
--- Assumes nothing.
+-- `book_rules::entry_kept` meets its contract: the entry of a sent packet, or of an unsent one.
 use borrow.Author.Needs.{needs}
 use Rattle.book_rules.proofs.entry_kept.Statement.{statement}
 use Rattle.book_rules.proofs.entry_kept.Tie as tie

@@ -1,5 +1,4 @@
--- `book_rules::flushed_kept` meets its contract: nothing is flushed, or the three tests of a flushed packet.
--- Assumes nothing.
+-- `book_rules::flushed_kept` meets its contract: nothing is flushed, or a flushed packet passes three tests.
 use borrow.Author.Needs.{needs}
 use Rattle.book_rules.proofs.flushed_kept.Statement.{statement}
 use Rattle.book_rules.proofs.flushed_kept.Tie as tie

@@ -1,5 +1,5 @@
--- `book_rules::kept` meets its contract: numbers and areas first, then the entries, so that these may be read and their sizes summed.
--- Assumes nothing.
+-- `book_rules::kept` meets its contract: numbers and areas are tested before the entries, which can then be read and
+-- summed.
 use mathlib.Core.Path.{_≡_, sym, _∙_}
 use mathlib.Core.Bool.{true, _&&_}
 use lib.ListN.{length}

@@ -1,5 +1,4 @@
 -- `book_rules::numbers_kept` meets its contract: each number by its own test.
--- Assumes nothing.
 use borrow.Author.Needs.{needs}
 use Rattle.book_rules.specs.Kept.{numbersKept}
 use Rattle.book_rules.proofs.numbers_kept.Statement.{statement}

@@ -1,5 +1,4 @@
--- `book_rules::run_kept` meets its contract: after the packets before i what is left to check is the rest of the run.
--- Assumes nothing.
+-- `book_rules::run_kept` meets its contract: once the packets before i are checked, the rest of the run is left.
 use mathlib.Core.Path.{_≡_, sym, ap, _∙_}
 use Prim.Native.Nat.{ℕ, _-_, _≤_}
 use native.Mathlib.Omega.{arith}

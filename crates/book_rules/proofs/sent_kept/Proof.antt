@@ -1,5 +1,4 @@
 -- `book_rules::sent_kept` meets its contract: the seven tests.
--- Assumes nothing.
 use borrow.Author.Needs.{needs}
 use Rattle.book_rules.specs.Kept.Entries.{sent-is}
 use Rattle.book_rules.proofs.sent_kept.Statement.{statement}

@@ -1,5 +1,4 @@
 -- `book_rules::settings_in_range` meets its contract: the seven tests.
--- Assumes nothing.
 use mathlib.Core.Path.{refl}
 use Rattle.rules.specs.Settings.{inRange}
 use Rattle.book_rules.proofs.settings_in_range.Statement.{statement}

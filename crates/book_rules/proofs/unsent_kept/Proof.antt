@@ -1,5 +1,4 @@
 -- `book_rules::unsent_kept` meets its contract: the six tests.
--- Assumes nothing.
 use borrow.Author.Needs.{needs}
 use Rattle.book_rules.specs.Kept.Entries.{unsent-is}
 use Rattle.book_rules.proofs.unsent_kept.Statement.{statement}

@@ -1,10 +1,12 @@
 -- The check of the entries: what the code uses of it, and what it shows.
---   sent-is, unsent-is            the rules of an entry, test by test
---   all-at, all-by                what holds of all entries holds of each, both ways
---   all-on, all-not, all-end      the check of a run of entries, entry by entry
---   entry-sent, entry-unsent, entry-short, entries-by   the check of all entries is that of each, both ways; an entry's place and its length
---   entries-is                    the check of all is that of the sent packets and that of the others
--- Assumes nothing.
+--   sent-is, unsent-is         the rules of an entry, test by test
+--   all-at, all-by             what holds of all entries holds of each, and conversely
+--   all-on, all-not, all-end   the check of a run of entries, entry by entry
+--   no-entry                   an entry of zeros
+--   entry-sent, entry-unsent, entry-short, entries-by
+--                              the check of all entries is the check of each, and conversely; an entry's place and
+--                              length
+--   entries-is                 the check of all is that of the sent packets and that of the unsent ones
 use mathlib.Core.Path.{_≡_, refl, ap, _∙_}
 use mathlib.Core.Bool.{Bool, true, false, _&&_, and-eq-true-iff}
 use mathlib.Core.List.{List, [], _∷_}
@@ -17,13 +19,13 @@ use lib.Dec.{ltb, leb, eqb}
 use lib.ListN.{length, take, drop, getD, length-drop, drop-of-length-le}
 use lib.Seq.{take-all, length-take-le, drop-cons, getD-take, getD-drop}
 use borrow.Author.Tests.{leb-true}
+use Rattle.laws.specs.Bools.{and-l, and-r}
 use Rattle.ring.specs.declared.Entry.{Entry}
 use Rattle.ring.specs.Entry.{entry, readE}
 use Rattle.ring.specs.Ring.{slotOf, packets}
 use Rattle.ring.specs.Ring.Laws.{packets-length, packets-at}
 use Rattle.rules.specs.Settings.{Settings}
-use Rattle.rules.specs.Books.{every, sentKept, unsentKept}
-use Rattle.rules_theorems.proofs.Frame.{and-l, and-r}
+use Rattle.rules.specs.BookRules.{every, sentKept, unsentKept}
 use Rattle.buffer.specs.declared.SendBuffer.{SendBuffer}
 use Rattle.buffer.specs.State.{packetOf}
 use Rattle.book_rules.specs.Kept.{all, sentEntry, unsentEntry, entryKept, entriesKept}
@@ -49,7 +51,7 @@ module _ (c : Settings) (e : Entry) where
   unfolding unsentEntry unsentKept every packetOf
   unsent-is = rw (and-true (eqb (e .resend) 0))
 
-  -- both kinds of entry have a place of two bits, and are no longer than a packet
+  -- both kinds of entry have a two-bit place, and are no longer than a packet
   short : (rest : Bool) → (leb (e .place) 3 && (ltb (e .time) (2 ^ 48) && (ltb (e .message) (2 ^ 26) && (leb (e .len) (c .size) && rest)))) ≡ true
       → (e .place ≤ 3) × (e .len ≤ c .size)
   short rest h =
@@ -150,7 +152,7 @@ module _ (c : Settings) (b : SendBuffer) (xs : List ℕ) (few : b .sent ≤ b .r
       (λ i h. let k : i < b .ring .len - b .sent = rw late-length at h in rw (late i (omega arith)) (g (b .sent + i) (omega arith) (omega arith))) in
       rw (p, q)
 
--- the check of the sent packets and that of the others
+-- the check of the sent packets, and of the unsent ones
 pub entries-is : (c : Settings) (b : SendBuffer) (xs : List ℕ)
     → (all (entryKept c true) (drop 0 (take (b .sent) (packets (b .ring) xs)))
     && all (entryKept c false) (drop (b .sent) (take (b .ring .len) (packets (b .ring) xs))))

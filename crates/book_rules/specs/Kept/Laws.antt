@@ -1,9 +1,8 @@
 -- What the code uses of the check of the numbers and the areas, and of the whole check.
---   Numbered, Framed              the rules of the numbers and of the areas as facts
---   numbers-facts, facts-numbers, areas-facts, facts-areas   the tests decide them, both ways
---   kept-frame, frame-numbers, frame-areas, kept-entries, kept-rest   the whole check, by what was tested so far
---   weighable                     entries that are checked may be weighed
--- Assumes nothing.
+--   Numbered, Framed   the rules of the numbers and of the areas as facts
+--   numbers-facts, facts-numbers, areas-facts, facts-areas   the tests decide these facts, both ways
+--   kept-frame, frame-numbers, frame-areas, kept-entries, kept-rest   the whole check, test after test
+--   weighable          the wire sizes of checked entries can be summed
 use mathlib.Core.Path.{_≡_}
 use mathlib.Core.Bool.{Bool, true, false, _&&_, and-eq-true-iff}
 use mathlib.Core.List.{List}
@@ -14,13 +13,13 @@ use lib.Dec.{ltb, leb, eqb}
 use lib.ListN.{length, take}
 use lib.Seq.{take-all}
 use borrow.Author.Tests.{ltb-true, leb-true, eqb-true, lt-ltb, le-leb, eq-eqb}
-use Rattle.rtt.specs.Rtt as Rtt
+use Rattle.laws.specs.Bools.{and-l, and-r}
+use Rattle.rules_numbers.specs.Rtt as Rtt
 use Rattle.ring.specs.Ring.{placed}
 use Rattle.ring.specs.Ring.Laws.{Placed, placed-facts, facts-placed}
 use Rattle.loss_list.specs.LossList.{keeps}
 use Rattle.rules.specs.Settings.{Settings, inRange, capacity}
 use Rattle.rules.specs.Sender.{wireSizes}
-use Rattle.rules_theorems.proofs.Frame.{and-l, and-r}
 use Rattle.buffer.specs.declared.SendBuffer.{SendBuffer}
 use Rattle.buffer.specs.State.{state, packetsOf}
 use Rattle.buffer.specs.State.View.{packets-length}

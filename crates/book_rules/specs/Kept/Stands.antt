@@ -1,11 +1,10 @@
--- The check on the books is that of the rules, both ways, so that refusal 3, BadState, is exact.
---   heldOf f                  the flushed packet of the rules
---   seenAs p st               the sender that books stand for, with pacing p: its numbers are those on the wire, counted on from the front
---   kept-stands, kept-rules   books that keep the rules stand for it, and it keeps them, whatever kept pacing is
+-- The check of the books agrees with the rules, both ways, so refusal 3, BadState, is exact.
+--   heldOf f                  the flushed packet, as in the rules
+--   seenAs p st               the sender that the books represent, with pacing p; its numbers count on from the front's
+--   kept-stands, kept-rules   books that keep the rules represent that sender, and it keeps the rules if pacing does
 --   kept-ready                such books are ready
---   ready-kept                books that stand for any sender that keeps the rules keep them
---   new-kept                  so do the books at the start
--- Assumes nothing.
+--   ready-kept                books that represent any sender that keeps the rules keep them
+--   new-kept                  new books keep them
 use mathlib.Core.Path.{_≡_, refl, sym, ap, _∙_}
 use mathlib.Core.Bool.{Bool, true, _&&_, and-eq-true-iff}
 use mathlib.Core.List.{List, [], _∷_}
@@ -17,26 +16,26 @@ use lib.Dec.{ltb, leb}
 use lib.ListN.{length, getD, take, drop, length-drop}
 use lib.Seq.{length-take-le, getD-take, getD-drop}
 use borrow.Author.Tests.{ltb-true, leb-true, lt-ltb, le-leb, eq-eqb}
-use Rattle.numbers.specs.Modular.{seqs, dist}
-use Rattle.pacing.specs.declared.SenderCongestionControl.{SenderCongestionControl}
-use Rattle.pacing.specs.declared.options.LiveBandwidthMode.the-variants.{Unlimited}
-use Rattle.pacing.specs.Books as Pacing
-use Rattle.pacing.specs.Books.Laws as PacingLaws
+use Rattle.rules_numbers.specs.Modular.{seqs, dist}
+use Rattle.rules_pacing.specs.declared.SenderCongestionControl.{SenderCongestionControl}
+use Rattle.rules_pacing.specs.declared.LiveBandwidthMode.the-variants.{Unlimited}
+use Rattle.rules_pacing.specs.Kept as Pacing
+use Rattle.pacing.specs.Laws.Kept as PacingLaws
 use Rattle.ring.specs.declared.Entry.{Entry}
 use Rattle.ring.specs.Entry.{readE}
 use Rattle.ring.specs.Ring.{slotOf}
 use Rattle.loss_list.specs.LossList.{descends, keeps}
 use Rattle.loss_list.specs.LossList.Stands as losses
 use Rattle.loss_list.specs.LossList.Stands.{keyOf, seen, stands-length}
-use Rattle.loss_list.specs.LossList.Stands.Books.{stands-keeps, keeps-stands, keeps-ascends}
+use Rattle.loss_list.specs.LossList.Stands.BookRules.{stands-keeps, keeps-stands, keeps-ascends}
 use Rattle.rules.specs.Numbers.{wire}
-use Rattle.rules.specs.Numbers.Laws.{wire-below}
+use Rattle.rules_theorems.specs.Laws.Numbers.{wire-below}
 use Rattle.rules.specs.Settings.{Settings, inRange, capacity}
 use Rattle.rules.specs.Sender as rules
 use Rattle.rules.specs.Sender.{Packet, Sender, nothing, sentOf, wireSizes}
-use Rattle.rules.specs.Books as books
-use Rattle.rules.specs.Books.{every, sentKept, unsentKept, heldKept}
-use Rattle.rules.specs.Books.Laws.{Kept, Sent, Unsent, HeldIn, kept-facts}
+use Rattle.rules.specs.BookRules as books
+use Rattle.rules.specs.BookRules.{every, sentKept, unsentKept, heldKept}
+use Rattle.rules_theorems.specs.Laws.BookRules.{Kept, Sent, Unsent, HeldIn, kept-facts}
 use Rattle.rules_theorems.proofs.CallsKept.{fresh-kept}
 use Rattle.buffer.specs.declared.Flushed.{Flushed}
 use Rattle.buffer.specs.declared.Flushed.the-variants.{Nothing, Held}
@@ -229,7 +228,7 @@ module _ (c : Settings) (st : State) (e : kept c st ≡ true) where
     kept = kept-rules (Pacing.fresh Unlimited) (PacingLaws.fresh-kept Unlimited refl);
   }
 
--- ## Books that stand for a sender which keeps them
+-- ## Books that represent a sender which keeps the rules
 
 module _ (c : Settings) (e : Entry) (place : e .place ≤ 3) where
   sent-entry : Sent c (packetOf e) → sentEntry c e ≡ true

@@ -1,10 +1,9 @@
 -- Removal on the books is removal in the rules.
---   Removable, Removed, Weighable   what the code asks for, and what it leaves
---   removed-is                 how the parts of `remove` make it whole
---   lost-length, lost-inside   the loss list lies within its area
---   going-is                   what goes of the loss list
---   stands-removed             k packets go, and the byte count becomes what it becomes there
--- Assumes nothing.
+--   Removable, Removed, Weighable   what the code requires, and what it guarantees
+--   removed-is                      the parts of `remove` make up the whole
+--   lost-length, lost-inside        the loss list lies within its area
+--   going-is                        how many loss entries go
+--   stands-removed                  k packets go, and the byte count becomes what it becomes in the rules
 use mathlib.Core.Path.{_≡_, refl, sym, ap, _∙_}
 use mathlib.Core.List.{List}
 use Prim.Native.Nat.{ℕ, suc, _+_, _-_, _*_, _^_, _≤_, _<_, min}
@@ -13,9 +12,9 @@ use lib.Dec.{ltb}
 use lib.ListN.{length, take, drop, length-take}
 use lib.Seq.{length-take-le}
 use borrow.Author.Tests.{ltb-false}
-use Rattle.numbers.specs.declared.SeqNumber.{SeqNumber}
-use Rattle.numbers.specs.Modular.{seqs, plus, dist}
-use Rattle.refusals.specs.Choice.{cond-by}
+use Rattle.rules_numbers.specs.declared.SeqNumber.{SeqNumber}
+use Rattle.rules_numbers.specs.Modular.{seqs, plus, dist}
+use Rattle.laws.specs.Choice.{cond-by}
 use Rattle.ring.specs.declared.Ring.{Ring}
 use Rattle.ring.specs.Entry.{readE}
 use Rattle.ring.specs.Ring.{slotOf}
@@ -41,7 +40,7 @@ pub record Removable (b : SendBuffer) (lost : List ℕ) (k : ℕ) : Type 0 where
   pub some : k ≤ b .ring .len
   pub inside : b .lost ≤ length lost
 
--- what `remove` leaves, over any words of the ring
+-- what `remove` guarantees, whatever the ring's words are
 pub record Removed (b : SendBuffer) (lost : List ℕ) (k bytes : ℕ) (r : SendBuffer) : Type 0 where
   pub is : (xs : List ℕ) → state r xs lost ≡ removed k bytes (state b xs lost)
 
@@ -61,9 +60,9 @@ pub removed-is : (b : SendBuffer) (lost : List ℕ) (k bytes : ℕ) (r : Ring) (
 unfolding removed
 removed-is b lost k bytes r to sent listed e l f g = record { is = λ xs. rw (f, g, l, e) }
 
--- ## What it stands for
+-- ## What it represents
 
--- the front's slot and the number of packets, after k went: so many were pushed as before
+-- the front's slot and the number of packets, once k have gone: the number ever pushed is the same
 record Round (n pushed slot len : ℕ) : Type 0 where
   pub turns : ℕ
   pub is : pushed ≡ turns * n + (slot + len)

@@ -1,13 +1,13 @@
--- What is known of the numbers of books that stand for a sender which keeps the book rules: the bounds by which the code neither wraps nor reads
--- beyond an area.
---   Ranged c          the settings are in their ranges
---   Facts c st        the kept numbers, and the areas
---   Entered c e       an entry
---   Readable c r ring a ring whose entries are such
---   range-facts       settings that are tested are in their ranges
---   stands-facts, stands-readable, stands-entry   all this holds of such books
---   stands-sent, stands-unsent, stands-covers     so do the rules of a sent packet and of an unsent one; the byte count covers the wire sizes
--- Assumes nothing.
+-- What is known of the numbers of books that represent a sender which keeps the book rules: with these bounds the code
+-- doesn't overflow, or read outside an area.
+--   Ranged c            the settings are in their ranges
+--   Facts c st          the bounds of the kept numbers and the areas
+--   Entered c e         the bounds of an entry
+--   Readable c r ring   a ring whose entries have these bounds
+--   range-facts         settings that pass the test are in their ranges
+--   stands-facts, stands-readable, stands-entry   these bounds hold of such books
+--   stands-sent, stands-unsent, stands-covers
+--                       so do the rules of sent and unsent packets, and the byte count is not below the wire sizes
 use mathlib.Core.Path.{_≡_, sym, ap, _∙_}
 use mathlib.Core.Bool.{true, and-eq-true-iff}
 use mathlib.Core.List.{List}
@@ -18,18 +18,18 @@ use lib.Dec.{ltb, leb}
 use lib.ListN.{length, take, drop, getD, length-take, length-drop}
 use lib.Seq.{getD-take, getD-drop}
 use borrow.Author.Tests.{ltb-true, leb-true}
-use Rattle.rtt.specs.Rtt.Laws as RttOf
+use Rattle.laws.specs.Ascending.{ascends-few}
+use Rattle.rtt.specs.Laws as RttOf
 use Rattle.ring.specs.declared.Entry.{Entry}
 use Rattle.ring.specs.declared.Ring.{Ring}
 use Rattle.ring.specs.Entry.{readE}
 use Rattle.ring.specs.Ring.{slotOf}
 use Rattle.ring.specs.Ring.Laws.{Placed}
 use Rattle.loss_list.specs.LossList.Stands.{stands-length}
-use Rattle.loss_list.specs.LossList.Stands.Books.{ascends-few}
-use Rattle.rules.specs.Numbers.Laws.{wire-below}
+use Rattle.rules_theorems.specs.Laws.Numbers.{wire-below}
 use Rattle.rules.specs.Settings.{Settings, inRange, capacity}
 use Rattle.rules.specs.Sender.{Packet, Sender, sentOf, nothing, wireSizes}
-use Rattle.rules.specs.Books.Laws.{Kept, Sent, Unsent}
+use Rattle.rules_theorems.specs.Laws.BookRules.{Kept, Sent, Unsent}
 use Rattle.rules_theorems.proofs.Packets.{all-at, sizes-drop}
 use Rattle.buffer.specs.State.{State, packetOf, packetsOf, lostOf}
 use Rattle.buffer.specs.State.View.{packets-length, packets-at}
@@ -86,7 +86,7 @@ pub record Entered (c : Settings) (e : Entry) : Type 0 where
   pub most : e .count ≤ 65_535
   pub resend : e .resend < 2 ^ 49
 
--- a ring whose entries may be read and weighed
+-- a ring whose entries can be read and their wire sizes summed
 pub record Readable (c : Settings) (r : Ring) (ring : List ℕ) : Type 0 where
   pub settings : Ranged c
   pub placed : Placed r ring
@@ -120,7 +120,7 @@ module _ {c : Settings} {st : State} {s : Sender} (S : Stands c st s) (K : Kept 
   sent-is : sentOf s ≡ st .books .sent
   sent-is = omega (arith, S .next)
 
-  -- packet i, by its words
+  -- packet i, from its words
   at : (i : ℕ) → i < st .books .ring .len → getD (s .packets) i nothing ≡ packetOf (readE (st .ring) (slotOf (st .books .ring) i))
   at i h = ap (λ (l : List Packet). getD l i nothing) (sym (S .packets)) ∙ packets-at (st .books .ring) (st .ring) i h
 

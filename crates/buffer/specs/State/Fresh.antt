@@ -1,6 +1,5 @@
--- The books at the start stand for the sender at its start, in any areas that are long enough.
---   fresh-stands   `SendBuffer::new` is `fresh` of the rules
--- Assumes nothing.
+-- New books represent a new sender, in any areas that are long enough.
+--   fresh-stands   `SendBuffer::new` represents `fresh` of the rules
 use mathlib.Core.Path.{_≡_, refl, sym}
 use mathlib.Core.Bool.{true}
 use mathlib.Core.List.{List}
@@ -8,7 +7,7 @@ use Prim.Native.Nat.{ℕ, _*_, _≤_}
 use native.Mathlib.Nat.{mod-eq-of-lt}
 use native.Mathlib.Omega.{arith}
 use lib.ListN.{length}
-use Rattle.pacing.specs.declared.options.LiveBandwidthMode.{LiveBandwidthMode}
+use Rattle.rules_pacing.specs.declared.LiveBandwidthMode.{LiveBandwidthMode}
 use Rattle.ring.specs.Ring.{packets}
 use Rattle.loss_list.specs.LossList.Stands.{stands-none}
 use Rattle.rules.specs.Settings.{Settings, inRange, capacity}

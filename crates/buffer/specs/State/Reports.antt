@@ -1,9 +1,9 @@
--- The reports of the books, and that they are those of the rules. Document 01: "the reports flushed, has packets to send, buffered packets,
--- bytes and time".
---   isFlushed, hasPacketsToSend b        by the kept numbers
---   time-none, time-some                 the time by the words of the ring
---   flushed-is, packets-is, sends-is, .. what books answer that stand for a sender is what the sender does
--- Assumes nothing.
+-- The reports of the books are those of the rules. Document 01: "the reports flushed, has packets to send, buffered
+-- packets, bytes and time".
+--   isFlushed, hasPacketsToSend b   two reports, from the kept numbers
+--   ltb-add                         adding the same number on both sides doesn't change a comparison
+--   time-none, time-some            the time, from the words of the ring
+--   packets-is, bytes-is, flushed-is, sends-is, time-is   books that represent a sender report what it does
 use mathlib.Core.Path.{_≡_, refl, sym, ap, _∙_}
 use mathlib.Core.Bool.{Bool, _&&_, _||_, not}
 use mathlib.Core.List.{List, [], _∷_}

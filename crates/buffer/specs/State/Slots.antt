@@ -1,13 +1,13 @@
--- Where a payload lies. Document 01, "Numbers and their ends": "the k-th packet ever pushed (from 0) lies at (k mod capacity) × packet size".
---   slot-push   the slot of the packet i places from the front, and of the one that comes next, is that of its push
--- Assumes nothing.
+-- Where a payload lies. Document 01, "Numbers and their ends": "the k-th packet ever pushed (from 0) lies at (k mod
+-- capacity) × packet size".
+--   slot-push   the slot of packet i from the front, or of the next one pushed, is given by its push
 use mathlib.Core.Path.{_≡_, sym, ap, _∙_}
 use Prim.Native.Nat.{ℕ, _+_, _-_, _*_, _%_, _≤_}
 use native.Mathlib.Nat.{mod-eq-of-lt, mod-eq-sub-mod, mul-add-mod-self-right}
 use native.Mathlib.Omega.{arith}
 use lib.Dec.{ltb}
 use borrow.Author.Tests.{ltb-true, ltb-false}
-use Rattle.refusals.specs.Choice.{cond-by}
+use Rattle.laws.specs.Choice.{cond-by}
 use Rattle.ring.specs.Ring.{slotOf}
 use Rattle.rules.specs.Settings.{Settings, capacity}
 use Rattle.rules.specs.Sender.{Sender, pushOf}

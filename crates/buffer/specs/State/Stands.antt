@@ -1,20 +1,19 @@
--- Books and areas stand for a sender of the rules, and for every one whose numbers lie a multiple of 2^31 further.
---   HeldAs f h        the flushed packet, or none
---   Others ..         the fields that no packet shows
---   Stands c st s     st stands for s
---   Ready c st        st stands for a sender that keeps the book rules: what the functions of the buffer ask for
--- Assumes nothing.
+-- Books and areas represent a sender of the rules, and every sender whose numbers differ by a multiple of 2^31.
+--   HeldAs f h      the flushed packet, or none, is the one of the rules
+--   Others ..       so are the fields that don't depend on the packets
+--   Stands c st s   st represents s
+--   Ready c st      st represents a sender that keeps the book rules: what the functions of the buffer require
 use mathlib.Core.Path.{_≡_}
 use mathlib.Core.Option.{Option, none, some}
 use Prim.Native.Nat.{ℕ, _+_, _*_, _≤_}
 use lib.ListN.{length}
-use Rattle.rtt.specs.declared.Rtt.{Rtt}
+use Rattle.rules_numbers.specs.declared.Rtt.{Rtt}
 use Rattle.ring.specs.Ring.Laws.{Placed}
 use Rattle.loss_list.specs.LossList.Stands as losses
 use Rattle.rules.specs.Numbers.{wire}
 use Rattle.rules.specs.Settings.{Settings, capacity}
 use Rattle.rules.specs.Sender.{Held, Sender}
-use Rattle.rules.specs.Books.Laws.{Kept}
+use Rattle.rules_theorems.specs.Laws.BookRules.{Kept}
 use Rattle.buffer.specs.declared.Flushed.{Flushed}
 use Rattle.buffer.specs.declared.Flushed.the-variants as flushed
 use Rattle.buffer.specs.State.{State, view, lostOf}

@@ -1,11 +1,10 @@
--- The buffered packets as a list, under each operation on the ring.
---   packets-length, packets-at     how many there are, and packet i
---   sizes-none, sizes-more         the wire sizes of one packet more
---   packets-set, packets-push, packets-remove   packet i written anew; one more at the back; k fewer at the front
---   Places r xs                    each entry's place is document 01's two bits
---   places-set, places-push, places-remove      so it is under the same three
--- Assumes nothing.
-use mathlib.Core.Path.{_≡_, refl, ap, _∙_}
+-- The buffered packets as a list, after each operation on the ring.
+--   packets-length, packets-at   how many there are, and packet i
+--   sizes-none, sizes-more       the wire sizes, packet by packet
+--   packets-set, packets-push, packets-remove   packet i overwritten; one more at the back; k fewer at the front
+--   Places r xs                  each entry's place has two bits
+--   places-set, places-push, places-remove   these three operations keep it so
+use mathlib.Core.Path.{_≡_, refl, sym, ap, _∙_}
 use mathlib.Core.List.{List, [], _∷_, _++_, map}
 use Prim.Native.Nat.{ℕ, zero, suc, _+_, _≤_, _<_}
 use native.Mathlib.Numerals.{add-one}
@@ -14,6 +13,7 @@ use native.Mathlib.Omega.{arith}
 use lib.Arith.{lt-of-le-ne}
 use lib.Seq.{take-suc}
 use lib.ListN.{length, getD, set, take, drop, length-map, List·getD-map}
+use Rattle.laws.specs.Lists.{map-append, map-drop, map-set}
 use Rattle.ring.specs.declared.Entry.{Entry}
 use Rattle.ring.specs.declared.Ring.{Ring}
 use Rattle.ring.specs.Entry.{entry, readE, writeE}
@@ -26,20 +26,6 @@ use Rattle.rules.specs.Settings.{Settings}
 use Rattle.rules.specs.Sender.{Packet, nothing, wireSizes}
 use Rattle.rules_theorems.proofs.Packets.{sizes-append}
 use Rattle.buffer.specs.State.{packetOf, packetsOf}
-
-map-set : (es : List Entry) (i : ℕ) (e : Entry) → map packetOf (set es i e) ≡ set (map packetOf es) i (packetOf e)
-map-set [] i e = refl
-map-set (x ∷ xs) zero e = refl
-map-set (x ∷ xs) (suc i) e = ap (λ (l : List Packet). packetOf x ∷ l) (map-set xs i e)
-
-map-append : (es ds : List Entry) → map packetOf (es ++ ds) ≡ map packetOf es ++ map packetOf ds
-map-append [] ds = refl
-map-append (x ∷ xs) ds = ap (λ (l : List Packet). packetOf x ∷ l) (map-append xs ds)
-
-map-drop : (k : ℕ) (es : List Entry) → map packetOf (drop k es) ≡ drop k (map packetOf es)
-map-drop zero es = refl
-map-drop (suc k) [] = refl
-map-drop (suc k) (x ∷ xs) = map-drop k xs
 
 module _ (r : Ring) (xs : List ℕ) where
   pub packets-length : length (packetsOf r xs) ≡ r .len
@@ -65,15 +51,15 @@ module _ (r : Ring) (xs : List ℕ) where
   module _ (p : Placed r xs) where
     pub packets-set : (i : ℕ) (e : Entry) → i < r .len → packetsOf r (writeE xs (slotOf r i) e) ≡ set (packetsOf r xs) i (packetOf e)
     unfolding packetsOf
-    packets-set i e h = ap (map packetOf) (laws.packets-set r xs p i e h) ∙ map-set (ring.packets r xs) i e
+    packets-set i e h = ap (map packetOf) (laws.packets-set r xs p i e h) ∙ sym (map-set packetOf (ring.packets r xs) i e)
 
     pub packets-push : (e : Entry) → r .len < r .cap → packetsOf (pushed r) (writeE xs (slotOf r (r .len)) e) ≡ packetsOf r xs ++ (packetOf e ∷ [])
     unfolding packetsOf
-    packets-push e h = ap (map packetOf) (laws.packets-push r xs p e h) ∙ map-append (ring.packets r xs) (e ∷ [])
+    packets-push e h = ap (map packetOf) (laws.packets-push r xs p e h) ∙ map-append packetOf (ring.packets r xs) (e ∷ [])
 
     pub packets-remove : (k : ℕ) → k ≤ r .len → packetsOf (removed k r) xs ≡ drop k (packetsOf r xs)
     unfolding packetsOf
-    packets-remove k h = ap (map packetOf) (laws.packets-remove r xs p k h) ∙ map-drop k (ring.packets r xs)
+    packets-remove k h = ap (map packetOf) (laws.packets-remove r xs p k h) ∙ sym (map-drop packetOf k (ring.packets r xs))
 
 abbrev pub Places : Ring → List ℕ → Type 0
 Places r xs = (i : ℕ) → i < r .len → readE xs (slotOf r i) .place ≤ 3

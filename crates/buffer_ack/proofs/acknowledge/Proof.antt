@@ -1,5 +1,5 @@
--- `buffer_ack::acknowledge` meets its contract: what `remove` leaves, with the expected full number that `expect` says (`done-is`).
--- Assumes nothing.
+-- `buffer_ack::acknowledge` meets its contract: what `remove` leaves, with the expected full number from `expect`
+-- (`done-is`).
 use mathlib.Core.Path.{refl}
 use native.Mathlib.Omega.{arith}
 use Rattle.buffer_ack.specs.Ack.Laws.{lost-less, done-is}

@@ -1,5 +1,4 @@
 -- `buffer_ack::judge` meets its contract: the two tests, chained by `when` (`judge-is`).
--- Assumes nothing.
 use Rattle.buffer_ack.specs.Ack.Laws.{judge-is}
 use borrow.Author.Needs.{needs}
 use Rattle.buffer_ack.proofs.judge.Statement.{statement}

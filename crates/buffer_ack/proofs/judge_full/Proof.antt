@@ -1,5 +1,4 @@
--- `buffer_ack::judge_full` meets its contract: no test where no full number is brought, else one.
--- Assumes nothing.
+-- `buffer_ack::judge_full` meets its contract: one test, if the ACK has a full number.
 use Rattle.rules.specs.Refusals.{fullVerdict}
 use borrow.Author.Needs.{needs}
 use Rattle.buffer_ack.proofs.judge_full.Statement.{statement}

@@ -1,5 +1,5 @@
--- `buffer_ack::update_largest_acked_seq_number` meets its contract: refused by 9 or 10, refused by 11 with the RTT taken over, or done as `acknowledge` says.
--- Assumes nothing.
+-- `buffer_ack::update_largest_acked_seq_number` meets its contract: refused by 9 or 10, refused by 11 with the RTT
+-- taken over, or done by `acknowledge`.
 use mathlib.Core.Path.{_∙_, sym}
 use Rattle.buffer_ack.specs.Ack.Laws.{acceptable, update-refused, update-stale, update-done}
 use borrow.Author.Needs.{needs}

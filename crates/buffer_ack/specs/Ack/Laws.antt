@@ -1,8 +1,7 @@
 -- What the code uses of an ACK on the books.
---   Acceptable, Asked           what the code asks for
---   judge-is, lost-less, done-is, update-refused, update-stale, update-done   how the parts of the code make the whole
---   acceptable                  an ACK that is not refused finds its packets, and their wire sizes in the byte count
--- Assumes nothing.
+--   Acceptable, Asked   what the code requires
+--   judge-is, lost-less, done-is, update-refused, update-stale, update-done   the parts of the code make up the whole
+--   acceptable          an ACK that isn't refused finds its packets, and their wire sizes in the byte count
 use mathlib.Core.Path.{_≡_, ap, _∙_}
 use mathlib.Core.Bool.{false}
 use mathlib.Core.List.{List, []}
@@ -11,16 +10,16 @@ use native.Mathlib.Omega.{arith}
 use lib.Dec.{ltb, eqb}
 use lib.ListN.{take}
 use borrow.Author.Tests.{ltb-false}
-use Rattle.numbers.specs.declared.SeqNumber.{SeqNumber}
-use Rattle.numbers.specs.Modular.{seqs, plus, dist}
-use Rattle.refusals.specs.declared.Refusal.{Refusal}
-use Rattle.refusals.specs.declared.Refusal.the-variants.{Empty, InvalidAck}
-use Rattle.refusals.specs.declared.Verdict.{Verdict}
-use Rattle.refusals.specs.declared.Verdict.the-variants.{Accepted, Refused}
-use Rattle.refusals.specs.Verdict.{when}
-use Rattle.refusals.specs.Verdict.Laws.{when-accepted, answer-refused, answer-accepted}
+use Rattle.rules_numbers.specs.declared.SeqNumber.{SeqNumber}
+use Rattle.rules_numbers.specs.Modular.{seqs, plus, dist}
+use Rattle.rules_refusals.specs.declared.Refusal.{Refusal}
+use Rattle.rules_refusals.specs.declared.Refusal.the-variants.{Empty, InvalidAck}
+use Rattle.rules_refusals.specs.declared.Verdict.{Verdict}
+use Rattle.rules_refusals.specs.declared.Verdict.the-variants.{Accepted, Refused}
+use Rattle.rules_refusals.specs.Verdict.{when}
+use Rattle.refusals.specs.Laws.{when-accepted, answer-refused, answer-accepted}
 use Rattle.loss_list.specs.LossList.Laws.{staying-few}
-use Rattle.rtt.specs.declared.Rtt.{Rtt}
+use Rattle.rules_numbers.specs.declared.Rtt.{Rtt}
 use Rattle.rules.specs.Settings.{Settings}
 use Rattle.rules.specs.Sender.{wireSizes}
 use Rattle.rules.specs.Ack as rules
@@ -39,14 +38,14 @@ use Rattle.buffer_ack.specs.declared.Acked.{Acked}
 use Rattle.buffer_ack.specs.declared.Acked.the-variants as acked
 use Rattle.buffer_ack.specs.Ack.{fullOf, rttOf, with, ackOf, judge, judgeOn, takeRtt, acknowledged, refused, done, update}
 
--- d packets may go, and their wire sizes from the byte count
+-- d packets can be removed, and their wire sizes subtracted from the byte count
 pub record Acceptable (c : Settings) (st : State) (d : ℕ) : Type 0 where
   pub weighable : Weighable c (st .books .ring) (st .ring) d
   pub removable : Removable (st .books) (st .lost) d
   pub covers : wireSizes c (take d (view st)) ≤ st .books .bytes
   pub few : st .books .lost ≤ 8_192
 
--- the books of a sender, a number, and a round-trip time in its range
+-- the books are a sender's, n is a sequence number, and the round-trip time is in its range
 pub record Asked (c : Settings) (st : State) (n : ℕ) (rtt : AckRtt) : Type 0 where
   pub ready : Ready c st
   pub number : n < 2 ^ 31
@@ -64,7 +63,7 @@ unfolding judge
 judge-is len front sent n next d l outside v e f g h k = k ∙ rw (h, g, f, e)
 
 module _ {b : SendBuffer} {lost : List ℕ} {d bytes : ℕ} {r : SendBuffer} (R : Removed b lost d bytes r) where
-  -- over no words of a ring: these counts do not depend on them
+  -- without words of a ring, on which these counts don't depend
   abbrev bare : State
   bare = state b [] lost
 
@@ -78,7 +77,7 @@ module _ {b : SendBuffer} {lost : List ℕ} {d bytes : ℕ} {r : SendBuffer} (R 
   recovered-less : b .lost - r .lost ≡ going d bare
   recovered-less = rw lost-is
 
-  -- the outcome where st is left, but for the expected full number
+  -- the outcome that leaves st, but for the expected full number
   abbrev answered : FullAck → State → Acked
   answered full st =
       acked.Done (with (st .books) (st .books .rtt) (expect (fullOf full) (st .books .expected)))
@@ -118,7 +117,7 @@ module _ (c : Settings) (n : SeqNumber) (full : FullAck) (rtt : AckRtt) (st : St
     update-done d a e f g =
         g ∙ rw (taken-is, f) (answer-accepted (refused (takeRtt rtt st)) w _ _ tested-is e ∙ answer-accepted (refused st) v _ _ same ok)
 
--- ## What it asks for
+-- ## What it requires
 
 module _ {c : Settings} {st : State} (R : Ready c st) (n : SeqNumber) (ok : judgeOn n st ≡ Accepted) where
   near : ackOf n st ≤ st .books .sent

@@ -1,11 +1,10 @@
--- An ACK on the books is the ACK of the rules, for every sender that the books stand for.
---   Answers                     an outcome of the call is an answer of the rules
---   refused-keeps               what a refusal leaves
+-- An ACK on the books is the ACK of the rules, for every sender that the books represent.
+--   Answers                             an outcome of the call is an answer of the rules
+--   refused-keeps                       what a refusal leaves
 --   stands-taken, stands-acknowledged   the sender with the RTT taken over, and with the packets gone
---   recovered-is, received-is   both counts
---   ack-is, verdict-is          how far the ACK reaches, and what its tests come to after 3, 7 and 8
---   update-is                   the call answers and leaves what the rules say
--- Assumes nothing.
+--   recovered-is, received-is           both counts
+--   ack-is, verdict-is                  how far the ACK reaches, and the verdict of the tests after 3, 7 and 8
+--   ack-refines                         the call answers and leaves what the rules say
 use mathlib.Core.Path.{_≡_, refl, sym, ap, _∙_}
 use mathlib.Core.Bool.{Bool, true, false, cond}
 use mathlib.Core.Option.{Option, none, some}
@@ -14,22 +13,22 @@ use native.Mathlib.Omega.{arith}
 use lib.Dec.{ltb, eqb}
 use lib.ListN.{length, take, length-take}
 use borrow.Author.Tests.{ltb-false, lt-leb}
-use Rattle.numbers.specs.declared.SeqNumber.{SeqNumber}
-use Rattle.numbers.specs.Modular.{seqs, plus}
-use Rattle.refusals.specs.declared.Refusal.{Refusal}
-use Rattle.refusals.specs.declared.Refusal.the-variants.{Empty, InvalidAck, StaleFullAck}
-use Rattle.refusals.specs.declared.Verdict.{Verdict}
-use Rattle.refusals.specs.declared.Verdict.the-variants.{Accepted, Refused}
-use Rattle.refusals.specs.Table.{numberOf}
-use Rattle.refusals.specs.Verdict.{when, answer}
+use Rattle.rules_numbers.specs.declared.SeqNumber.{SeqNumber}
+use Rattle.rules_numbers.specs.Modular.{seqs, plus}
+use Rattle.rules_refusals.specs.declared.Refusal.{Refusal}
+use Rattle.rules_refusals.specs.declared.Refusal.the-variants.{Empty, InvalidAck, StaleFullAck}
+use Rattle.rules_refusals.specs.declared.Verdict.{Verdict}
+use Rattle.rules_refusals.specs.declared.Verdict.the-variants.{Accepted, Refused}
+use Rattle.rules_refusals.specs.Table.{numberOf}
+use Rattle.rules_refusals.specs.Verdict.{when, answer}
 use Rattle.loss_list.specs.LossList.Stands.{wire-plus}
 use Rattle.rules.specs.Numbers.{wire}
-use Rattle.rules.specs.Numbers.Laws.{wire-below, distance-is-dist}
+use Rattle.rules_theorems.specs.Laws.Numbers.{wire-below, distance-is-dist}
 use Rattle.rules.specs.Settings.{Settings}
 use Rattle.rules.specs.Sender.{Sender, sentOf, wireSizes}
 use Rattle.rules.specs.Ack as rules
 use Rattle.rules.specs.Ack.{expect}
-use Rattle.rules.specs.Books.Laws.{Kept, facts-kept}
+use Rattle.rules_theorems.specs.Laws.BookRules.{Kept, facts-kept}
 use Rattle.rules.specs.Refusals.{badRtt, fullVerdict, ackVerdict}
 use Rattle.rules.specs.Calls as calls
 use Rattle.rules_theorems.proofs.CallsKept.{takeRtt-kept}
@@ -116,7 +115,7 @@ module _ {c : Settings} {st : State} {s : Sender} (S : Stands c st s) where
     pub received-is : d ≡ rules.received d s
     received-is = sym (length-take d (s .packets) ∙ omega (arith, packets-is S, few))
 
-    -- next unsent lies past them
+    -- next unsent isn't among them
     stays : max (s .next) (s .front + d) ≡ s .next
     stays = omega (arith, S .next)
 
@@ -165,7 +164,7 @@ module _ {c : Settings} {st : State} {s : Sender} (S : Stands c st s) (K : Kept 
       (ap (λ (f : SeqNumber). when (eqb (length (s .packets)) 0) Empty (when (ltb (sentOf s) (rules.ackOf s (n .0))) (InvalidAck n f (record { 0 = wire (s .next) })) Accepted))
       front-is)
 
-  -- tests 3, 7 and 8 are those of the layer above
+  -- the layer above tests 3, 7 and 8
   pub verdict-is : (full : FullAck) (rtt : AckRtt) → badRtt (rttOf rtt) ≡ false
       → ackVerdict c (n .0) (fullOf full) (rttOf rtt) s
       ≡ when (eqb (length (s .packets)) 0) Empty (when (ltb (sentOf s) (rules.ackOf s (n .0))) outside (fullVerdict (fullOf full) (s .expected)))
@@ -204,9 +203,9 @@ module _ {c : Settings} {st : State} {s : Sender} (S : Stands c st s) (K : Kept 
     by-tests false false e v f =
         by-full v f (omega (arith, ltb-false (sentOf s) (rules.ackOf s (n .0)) e, ack-is, sent-is))
 
-    pub update-is : Answers c st (update c n full rtt st) (calls.answer c call s)
+    pub ack-refines : Answers c st (update c n full rtt st) (calls.answer c call s)
     unfolding update calls.answer calls.verdictOf
-    update-is =
+    ack-refines =
         let e : fullVerdict (fullOf full) (s .expected) ≡ fullVerdict (fullOf full) (st .books .expected) = ap (fullVerdict (fullOf full)) (sym (S .others .expected)) in
         rw (judged, verdict-is full rtt ranged, e)
         (by-tests (eqb (length (s .packets)) 0) (ltb (sentOf s) (rules.ackOf s (n .0))) refl (fullVerdict (fullOf full) (st .books .expected)) e)

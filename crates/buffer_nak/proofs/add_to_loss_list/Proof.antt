@@ -1,5 +1,5 @@
--- `buffer_nak::add_to_loss_list` meets its contract: the runs are written, those that are Added enter, and there is room for what enters.
--- Assumes nothing.
+-- `buffer_nak::add_to_loss_list` meets its contract: the runs are written and the Added ones enter; there is room for
+-- them.
 use native.Mathlib.Omega.{arith}
 use Rattle.buffer_nak.specs.Report.Laws.{readable, add-done}
 use Rattle.buffer_nak.specs.Report.Stands.{lost-fits}

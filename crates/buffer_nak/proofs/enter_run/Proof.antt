@@ -1,5 +1,4 @@
--- `buffer_nak::enter_run` meets its contract: where the run is Added as `loss_list::enter` says, else the list stays.
--- Assumes nothing.
+-- `buffer_nak::enter_run` meets its contract: an Added run is entered by `loss_list::enter`; otherwise the list stays.
 use native.Mathlib.Omega.{arith}
 use Rattle.buffer_nak.specs.Report.Laws.{added-fits, added-left, enter-none}
 use borrow.Author.Needs.{needs}

@@ -1,5 +1,4 @@
--- `buffer_nak::enter_runs` meets its contract: each turn of the loop enters one run more (`Entering`).
--- Assumes nothing.
+-- `buffer_nak::enter_runs` meets its contract: each turn of the loop enters one more run (`Entering`).
 use Prim.Native.Nat.{_-_}
 use Rattle.buffer_nak.proofs.Entering.{Entering, entering-none, entering-fits, entering-step, entering-all}
 use borrow.Author.Needs.{needs}

@@ -1,12 +1,12 @@
 -- What the code uses of a loss report on the books.
---   enteredTo f ws k xs         the first k runs of the words ws enter the list xs
---   Growing f ws k xs           none of them makes it shorter
---   Reportable, Readable, Enters   what the code asks for; what a report has
+--   enteredTo f ws k xs                  the list xs with the first k runs of the words ws entered
+--   Growing f ws k xs                    none of these runs makes the list shorter
+--   Reportable, Readable, Enters         what the code requires; what holds of a report
 --   enter-none, added-fits, added-left   one run, as the code enters it
---   entered-longest             then none of these lists is longer than the last
---   growing-first, entered-runs it is so of the first run and of those behind it; the words of runs enter what the runs enter
---   readable, add-done          how the parts of the code make the whole
--- Assumes nothing.
+--   entered-longest                      none of these lists is longer than the last
+--   growing-first                        a list that grows with the first run, and then with the others, grows with all
+--   entered-runs                         the words of runs enter what the runs enter
+--   readable, add-done                   the parts of the code make up the whole
 use mathlib.Core.Path.{_≡_, refl, sym, ap, _∙_}
 use mathlib.Core.List.{List, [], _∷_, _++_}
 use Prim.Native.Nat.{ℕ, zero, suc, _+_, _*_, _≤_, _<_}
@@ -16,7 +16,7 @@ use native.Mathlib.Omega.{arith}
 use lib.ListN.{length, take, drop, getD, length-drop, length-append, take-append-drop}
 use lib.Seq.{getD-drop, length-take-le}
 use borrow.Author.Tests.{eq-eqb, ne-eqb}
-use Rattle.numbers.specs.Modular.{seqs, dist}
+use Rattle.rules_numbers.specs.Modular.{seqs, dist}
 use Rattle.rules.specs.Settings.{Settings}
 use Rattle.rules.specs.Losses.{LossRun, endOf}
 use Rattle.loss_list.specs.LossList.{over, entered}
@@ -46,14 +46,14 @@ enteredTo f ws (suc k) xs = enterRun f (getD ws (3 * k) 0) (getD ws (3 * k + 1) 
 abbrev pub Growing : ℕ → List ℕ → ℕ → List ℕ → Type 0
 Growing f ws k xs = (i : ℕ) → i < k → length (enteredTo f ws i xs) ≤ length (enteredTo f ws (suc i) xs)
 
--- the words hold k runs, and the area has room for what enters
+-- the words hold k runs, and the area has room for the numbers that enter
 pub record Readable (ws : List ℕ) (k f len : ℕ) (lost : List ℕ) : Type 0 where
   pub whole : 3 * k ≤ length ws
   pub inside : len ≤ length lost
   pub grows : Growing f ws k (take len lost)
   pub room : length (enteredTo f ws k (take len lost)) ≤ length lost
 
--- the same of a report, whatever stands behind its runs
+-- the same for a report, whatever comes behind its runs
 pub record Enters (b : SendBuffer) (ws lost : List ℕ) : Type 0 where
   pub inside : b .lost ≤ length lost
   pub grows : (t : List ℕ) → Growing (b .front .0) (wordsFor (runsFor b ws) ++ t) (length (runsFor b ws)) (take (b .lost) lost)
@@ -70,7 +70,7 @@ module _ (f kind first end : ℕ) (xs : List ℕ) where
   unfolding enterRun
   enter-other h = rw (ne-eqb kind 1 h)
 
--- a run that is Added, as the code has it
+-- an Added run, as the code enters it
 module _ (f kind first end count len : ℕ) (e : List ℕ) (h : kind ≡ 1) (d : count ≡ dist seqs first end) where
   added-is : enterRun f kind first end (take len e) ≡ entered (dist seqs f) first count (take len e)
   added-is = rw d (enter-added f kind first end (take len e) h)
@@ -99,7 +99,7 @@ entered-longest f ws j (suc k) xs g h = go (decLe j k) (entered-longest f ws j k
     go (yes l) ih = le-trans (ih l) (g k (omega arith))
     go (no l) ih = let end : j ≡ suc k = omega arith in rw end (le-refl (length (enteredTo f ws (suc k) xs)))
 
--- the first run of the words, and then those behind it
+-- the first run of the words, then the others
 entered-first : (f : ℕ) (ws : List ℕ) (k : ℕ) (xs : List ℕ)
     → enteredTo f ws (suc k) xs ≡ enteredTo f (drop 3 ws) k (enterRun f (getD ws 0 0) (getD ws 1 0) (getD ws 2 0) xs)
 unfolding enteredTo

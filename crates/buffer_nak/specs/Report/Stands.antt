@@ -1,10 +1,9 @@
--- A loss report on the books is the report of the rules, for every sender that the books stand for.
---   runs-stand                  what enters the area stands for what enters the list of the rules
---   runs-are                    the answer's runs are those of the rules
---   lost-fits                   there is room in the area for all that enters
---   stands-reported             the books afterwards
---   Answers, add-is             the call answers and leaves what the rules say
--- Assumes nothing.
+-- A loss report on the books is the report of the rules, for every sender that the books represent.
+--   runs-stand             what enters the area represents what enters the list of the rules
+--   runs-are               the runs of the answer are those of the rules
+--   lost-fits              the area has room for all that enters
+--   stands-reported        the books afterwards
+--   Answers, nak-refines   the call answers and leaves what the rules say
 use mathlib.Core.Path.{_≡_, refl}
 use mathlib.Core.List.{List, [], _∷_, _++_}
 use Prim.Native.Nat.{ℕ, _+_, _*_, _^_, _≤_, _<_}
@@ -12,13 +11,14 @@ use native.Mathlib.Nat.{not-suc-le-zero}
 use native.Mathlib.Omega.{arith}
 use lib.ListN.{length, getD}
 use borrow.Author.Tests.{le-ltb}
-use Rattle.numbers.specs.Modular.{seqs, dist}
+use Rattle.laws.specs.Ascending.{ascends-few}
+use Rattle.rules_numbers.specs.Modular.{seqs, dist}
 use Rattle.rules.specs.Settings.{Settings}
 use Rattle.rules.specs.Numbers.{wire, distance}
-use Rattle.rules.specs.Numbers.Laws.{wire-distance}
+use Rattle.rules_theorems.specs.Laws.Numbers.{wire-distance}
 use Rattle.rules.specs.Sender.{Sender, sentOf}
-use Rattle.refusals.specs.declared.Verdict.the-variants.{Accepted}
-use Rattle.rules.specs.Books.Laws.{Kept, facts-kept}
+use Rattle.rules_refusals.specs.declared.Verdict.the-variants.{Accepted}
+use Rattle.rules_theorems.specs.Laws.BookRules.{Kept, facts-kept}
 use Rattle.rules.specs.Refusals.{wordsVerdict, nakVerdict}
 use Rattle.rules.specs.Calls as calls
 use Rattle.rules.specs.Losses as rules
@@ -28,7 +28,6 @@ use Rattle.loss_list.specs.LossList.{over}
 use Rattle.loss_list.specs.LossList.Laws.{take-over, length-over}
 use Rattle.loss_list.specs.LossList.Stands as losses
 use Rattle.loss_list.specs.LossList.Stands.{stands-length, stands-entered, stands-grows}
-use Rattle.loss_list.specs.LossList.Stands.Books.{ascends-few}
 use Rattle.loss_words.specs.Runs.{codeOf, wordsFor}
 use Rattle.loss_words.specs.Runs.Laws.{words-numbers, answer-is}
 use Rattle.loss_words.specs.Runs.Lent.{Holds}
@@ -39,7 +38,7 @@ use Rattle.buffer.specs.State.Facts.{stands-facts}
 use Rattle.buffer_nak.specs.Report.{withLost, runsFor, enterRun, enterRuns, lostAfter, Left, add}
 use Rattle.buffer_nak.specs.Report.Laws.{Growing, Enters, growing-first}
 
--- ## What the runs stand for
+-- ## The runs
 
 module _ (s : Sender) (near : sentOf s < 2 ^ 31) where
   run-stands : (k : LossKind) (first count : ℕ) → first < 2 ^ 31 → (k ≡ Added → distance (wire (s .front)) first + count ≤ sentOf s)
@@ -56,7 +55,7 @@ module _ (s : Sender) (near : sentOf s < 2 ^ 31) where
   run-stands Ignored first count h i S = S
   run-stands Dropped first count h i S = S
 
-  -- the list becomes no shorter
+  -- the list doesn't become shorter
   run-grows : (k : LossKind) (first count : ℕ) → first < 2 ^ 31 → (k ≡ Added → distance (wire (s .front)) first + count ≤ sentOf s)
       → {lost xs : List ℕ} → losses.Stands lost (s .front) xs → length xs ≤ length (enterRun (wire (s .front)) (codeOf k) first (wire (first + count)) xs)
   unfolding enterRun
@@ -83,7 +82,7 @@ module _ (s : Sender) (near : sentOf s < 2 ^ 31) where
   runs-stand [] a S = S
   runs-stand (r ∷ rs) a S = runs-stand rs (a .2) (run-stands (r .kind) (r .first) (r .count) (a .0) (a .1) S)
 
--- ## What the report stands for
+-- ## The report
 
 module _ {c : Settings} {st : State} {s : Sender} (S : Stands c st s) (K : Kept c s) (ws : List ℕ) (words : (j : ℕ) → getD ws j 0 < 2 ^ 32) where
   abbrev reported : List Item
@@ -157,9 +156,9 @@ module _ {c : Settings} {st : State} {s : Sender} (S : Stands c st s) (K : Kept 
   unfolding calls.verdictOf nakVerdict
   accepted = rw (facts-kept c s K) (words-fine (wordsOf ws) room fine enough)
 
-  pub add-is : Answers c st out (add (st .books) ws (st .lost) out) (calls.answer c (calls.nak ws room) s)
+  pub nak-refines : Answers c st out (add (st .books) ws (st .lost) out) (calls.answer c (calls.nak ws room) s)
   unfolding add calls.answer calls.answerBy calls.saidBy calls.after
-  add-is = rw accepted (record {
+  nak-refines = rw accepted (record {
     verdict = refl;
     runs = joined (runsOf s (itemsOf (wordsOf ws)));
     said = refl;

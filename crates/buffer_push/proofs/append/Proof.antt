@@ -1,5 +1,5 @@
--- `buffer_push::append` meets its contract: the entry behind the others, and its wire size on the byte count (`append-is`).
--- Assumes nothing.
+-- `buffer_push::append` meets its contract: the entry goes behind the others, its wire size into the byte count
+-- (`append-is`).
 use native.Mathlib.Omega.{arith}
 use Rattle.buffer.specs.State.{settingsOf}
 use Rattle.buffer_push.specs.Message.Parts.{append-is}

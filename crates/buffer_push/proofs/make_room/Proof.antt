@@ -1,6 +1,6 @@
--- `buffer_push::make_room` meets its contract: what stands for a sender that keeps the book rules has a front packet that can be weighed and
--- removed (`weighable`, `removable`, `covered`), and what is left then is as `room-full` says, or as before (`room-none`).
--- Assumes nothing.
+-- `buffer_push::make_room` meets its contract: in books that represent a sender which keeps the rules, the front packet
+-- can be removed and its wire size subtracted (`weighable`, `removable`, `covered`); what is left is given by
+-- `room-full` or, if there was room, by `room-none`.
 use Prim.Native.Nat.{_≤_}
 use native.Mathlib.Omega.{arith}
 use Rattle.buffer_push.specs.Message.Parts.{weighable, removable, covered, front-small, room-full, room-none}

@@ -1,5 +1,4 @@
 -- `buffer_push::next_place` meets its contract: the slot is one of the ring's, at most 8,192.
--- Assumes nothing.
 use native.Mathlib.Nat.{le-of-lt, mul-le-mul-right}
 use native.Mathlib.Omega.{arith}
 use borrow.Author.Needs.{needs}

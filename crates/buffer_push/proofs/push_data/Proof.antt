@@ -1,6 +1,5 @@
--- `buffer_push::push_data` meets its contract: one packet is still to come (`Next`), so that it can be cut, room made and its payload laid in its
--- slot (`ahead`), and the parts together are `pushOne` (`pushed-is`).
--- Assumes nothing.
+-- `buffer_push::push_data` meets its contract: a packet is still to come (`Next`), so it can be cut, room made and its
+-- payload copied to its slot (`ahead`); the parts together are `pushOne` (`pushed-is`).
 use native.Mathlib.Omega.{arith}
 use Rattle.buffer_push.specs.Message.Rest.{cuttable, size-high, begins, part-lent, roomable, ahead, appendable, pushed-is}
 use borrow.Author.Needs.{needs}

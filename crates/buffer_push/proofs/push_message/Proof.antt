@@ -1,11 +1,10 @@
--- `buffer_push::push_message` meets its contract. The loop's invariant: the packets still to come make, from here, what all make from the start
--- (`Going`); the measure is how many are to come.
--- Assumes nothing.
+-- `buffer_push::push_message` meets its contract. The loop's invariant: the packets still to come lead to the same end
+-- as all from the start (`Going`); the measure is how many are to come.
 use mathlib.Core.Path.{_≡_, refl}
 use Prim.Native.Nat.{_-_}
 use lib.ListN.{length}
 use Rattle.buffer.specs.State.{settingsOf}
-use Rattle.buffer_push.specs.Message.{work, world}
+use Rattle.buffer_push.specs.Message.{work, pushing}
 use Rattle.buffer_push.specs.Message.Whole.{Going, sized, going-opened, going-next, going-one, going-less, going-all, whole}
 use borrow.Author.Needs.{needs}
 use Rattle.buffer_push.proofs.push_message.Statement.{statement}
@@ -13,7 +12,7 @@ use Rattle.buffer_push.proofs.push_message.Tie as tie
 
 abbrev Inv-loop : tie.InvT-loop
 Inv-loop c time payload ring₀ lost store₀ n number p₀ ring store p =
-    Going (settingsOf c) time (number .0) payload n (world (work p₀ ring₀ lost) store₀) (world (work p ring lost) store)
+    Going (settingsOf c) time (number .0) payload n (pushing (work p₀ ring₀ lost) store₀) (pushing (work p ring lost) store)
     × (length ring ≡ length ring₀)
     × (length store ≡ length store₀)
 

@@ -1,8 +1,10 @@
 -- A message on the books is a message in the rules.
---   Follows, follows-pushes   what n packets leave, beside what they leave in the rules
---   numbered                  the sender once the message has its number; stands-numbered   the books then stand for it
---   stands-message, message-made, message-removed, message-wire, message-said, message-store   the whole message: the books, the answer, the store
--- Assumes nothing.
+--   Follows, follows-pushes   n packets on the books, compared with n packets in the rules
+--   numbered                  the sender once the message has its number
+--   stands-numbered           the books then represent it
+--   message-refines, message-made, message-removed, message-wire, message-said, message-store
+--                             the whole message: the books, the answer, the store
+--   removals                  the packets removed by the message
 use mathlib.Core.Path.{_≡_, refl, ap, _∙_}
 use mathlib.Core.List.{List}
 use mathlib.Core.Option.{none}
@@ -10,10 +12,10 @@ use Prim.Native.Nat.{ℕ, zero, suc, _+_, _%_, _^_}
 use native.Mathlib.Numerals.{add-one}
 use native.Mathlib.Omega.{arith}
 use lib.ListN.{length, length-append}
-use Rattle.numbers.specs.Modular.Laws.{plus-is}
-use Rattle.encapsulate.specs.Split.{count}
-use Rattle.pacing.specs.declared.SenderCongestionControl.{SenderCongestionControl}
-use Rattle.pacing.specs.Pacing.{after, input}
+use Rattle.rules_numbers.specs.Modular.Laws.{plus-is}
+use Rattle.rules_packets.specs.Split.{count}
+use Rattle.rules_pacing.specs.declared.SenderCongestionControl.{SenderCongestionControl}
+use Rattle.rules_pacing.specs.Pacing.{after, input}
 use Rattle.rules.specs.Settings.{Settings}
 use Rattle.rules.specs.Sender.{Packet, Sender, wireSizes}
 use Rattle.rules.specs.Message as rules
@@ -21,13 +23,13 @@ use Rattle.rules.specs.Calls as said
 use Rattle.rules_theorems.proofs.Packets.{sizes-append}
 use Rattle.buffer.specs.State.{State}
 use Rattle.buffer.specs.State.Stands.{Stands}
-use Rattle.buffer_push.specs.Message.{World, roomed, appended, pushOne, pushes, begun, opened, message}
+use Rattle.buffer_push.specs.Message.{Pushing, roomed, appended, pushOne, pushes, begun, opened, message}
 use Rattle.buffer_push.specs.Message.OnePacket.{gone-is, pushed-room, stands-one, store-one}
 
 -- ## Every packet of a message
 
--- n packets from the world w on, where w's books stand for s: what they leave, beside what they leave in the rules
-pub record Follows (c : Settings) (payload : List ℕ) (w : World) (ps : List Packet) (n : ℕ) (s : Sender) (after : World) : Type 0 where
+-- n packets pushed from w on, whose books represent s, compared with the same packets in the rules
+pub record Follows (c : Settings) (payload : List ℕ) (w : Pushing) (ps : List Packet) (n : ℕ) (s : Sender) (after : Pushing) : Type 0 where
   pub stands : Stands c (after .work .state) (rules.pushAll c ps s)
   pub made : after .work .made ≡ w .work .made + n
   pub removed : after .work .removed ≡ w .work .removed + length (rules.goneBy c ps s)
@@ -41,7 +43,7 @@ module _ (c : Settings) (time m : ℕ) (payload : List ℕ) where
   abbrev restFrom : ℕ → ℕ → List Packet
   restFrom i n = rules.packetsFrom c time m (length payload) i n
 
-  pub follows-pushes : (n : ℕ) (w : World) (s : Sender) → Stands c (w .work .state) s
+  pub follows-pushes : (n : ℕ) (w : Pushing) (s : Sender) → Stands c (w .work .state) s
       → Follows c payload w (restFrom (w .work .made) n) n s (pushes c time m payload n w)
   unfolding pushes pushOne appended roomed rules.pushAll rules.goneBy rules.packetsFrom rules.written rules.append wireSizes
   follows-pushes zero w s S = record { stands = S; made = omega arith; removed = omega arith; wire = omega arith; store = refl }
@@ -117,9 +119,9 @@ module _ {c : Settings} {st : State} {s : Sender} (S : Stands c st s) where
             (follows-pushes c time (s .messages) payload (count (c .size) (length payload)) (opened st store)
             (rules.begin c now (length payload) s) (stands-begun now (length payload) store))
 
-    pub stands-message : Stands c (message c time payload st store .work .state) (rules.push c time now (length payload) s)
+    pub message-refines : Stands c (message c time payload st store .work .state) (rules.push c time now (length payload) s)
     unfolding rules.push
-    stands-message = all .stands
+    message-refines = all .stands
 
     -- "Answer: packets made, packets removed, wire bytes removed"
     pub message-made : message c time payload st store .work .made ≡ count (c .size) (length payload)

@@ -1,9 +1,10 @@
--- A packet of a message, on the books, is a packet in the rules.
---   entry-is                              its entry stands for it
---   stands-room, stands-append, gone-is   making room, and a packet more at the back; room-made   there is room once it is made
---   slot-is                               the next packet's slot: "the k-th packet ever pushed (from 0) lies at (k mod capacity) × packet size"
---   stands-one, store-one                 both together, and where the payload then lies
--- Assumes nothing.
+-- A packet of a message on the books is a packet in the rules.
+--   entry-is                 its entry represents it
+--   stands-room, stands-append, gone-is   making room, and one more packet at the back
+--   room-made, pushed-room   there is room afterwards; making room doesn't change how many were pushed
+--   slot-is                  the next packet's slot: "the k-th packet ever pushed (from 0) lies at (k mod capacity) ×
+--                            packet size"
+--   stands-one, store-one    both together, and where the payload then lies
 use mathlib.Core.Path.{_≡_, refl, ap, _∙_}
 use mathlib.Core.Bool.{Bool, true, false}
 use mathlib.Core.List.{List, [], _∷_, _++_}
@@ -13,11 +14,11 @@ use lib.Dec.{lit≤, leb}
 use lib.ListN.{length, take, drop}
 use lib.Seq.{paste}
 use borrow.Author.Tests.{leb-true, leb-false}
-use Rattle.refusals.specs.Choice.{cond-by}
-use Rattle.encapsulate.specs.declared.Place.{Place}
-use Rattle.encapsulate.specs.declared.Place.the-variants.{First, Middle, Last, Only}
-use Rattle.encapsulate.specs.Header.{placeBits}
-use Rattle.encapsulate.specs.Split.{count, placeOf, startOf, lengthOf}
+use Rattle.laws.specs.Choice.{cond-by}
+use Rattle.rules_packets.specs.declared.Place.{Place}
+use Rattle.rules_packets.specs.declared.Place.the-variants.{First, Middle, Last, Only}
+use Rattle.rules_packets.specs.Header.{placeBits}
+use Rattle.rules_packets.specs.Split.{count, placeOf, startOf, lengthOf}
 use Rattle.ring.specs.declared.Entry.{Entry}
 use Rattle.ring.specs.Entry.Laws.{length-writeE}
 use Rattle.ring.specs.Ring.{slotOf}
@@ -32,7 +33,7 @@ use Rattle.buffer.specs.State.Reports.{packets-is}
 use Rattle.buffer.specs.State.Slots.{slot-push}
 use Rattle.buffer.specs.Removal.{removed}
 use Rattle.buffer.specs.Removal.Laws.{stands-removed}
-use Rattle.buffer_push.specs.Message.{World, entryOf, gone, makeRoom, append, roomed, appended, pushOne}
+use Rattle.buffer_push.specs.Message.{Pushing, entryOf, gone, makeRoom, append, roomed, appended, pushOne}
 
 place-back : (p : Place) → placeFrom (placeBits p) ≡ p
 place-back First = refl
@@ -46,7 +47,7 @@ place-few Middle = lit≤ tt
 place-few Last = lit≤ tt
 place-few Only = lit≤ tt
 
--- the entry of a packet stands for the packet
+-- the entry of a packet represents the packet
 pub entry-is : (c : Settings) (time m len k : ℕ) → packetOf (entryOf c time m len k) ≡ rules.packetOf c time m len k
 unfolding packetOf entryOf rules.packetOf
 entry-is c time m len k = rw (place-back (placeOf (count (c .size) len) k))
@@ -74,7 +75,7 @@ module _ {c : Settings} {st : State} {s : Sender} (S : Stands c st s) where
           rw (full-is, e, left) (stands-removed S 1 some (s .bytes - wireSizes c (take 1 (s .packets))))
       go false e = rw (full-is, e) S
 
-  -- there is room once room is made
+  -- there is room afterwards
   pub room-made : makeRoom c st .books .ring .len < makeRoom c st .books .ring .cap
   unfolding makeRoom removed
   room-made = go (leb (st .books .ring .cap) (st .books .ring .len)) refl
@@ -113,7 +114,7 @@ unfolding rules.makeRoom
 pushed-room c s = cond-by (λ (x : Sender). x .pushed ≡ s .pushed) (leb (capacity c) (length (s .packets))) _ s (λ q. refl) (λ q. refl)
 
 module _ (c : Settings) (time m : ℕ) (payload : List ℕ) where
-  pub stands-one : (w : World) (s : Sender) → Stands c (w .work .state) s
+  pub stands-one : (w : Pushing) (s : Sender) → Stands c (w .work .state) s
       → Stands c (pushOne c time m payload w .work .state) (rules.append c (rules.packetOf c time m (length payload) (w .work .made)) (rules.makeRoom c s))
   unfolding pushOne appended roomed
   stands-one w s S =
@@ -121,7 +122,7 @@ module _ (c : Settings) (time m : ℕ) (payload : List ℕ) where
       (stands-append (stands-room S) (entryOf c time m (length payload) (w .work .made)) (room-made S) (entry-place c time m (length payload) (w .work .made)))
 
   -- the payload lies in the slot of the packet
-  pub store-one : (w : World) (s : Sender) → Stands c (w .work .state) s
+  pub store-one : (w : Pushing) (s : Sender) → Stands c (w .work .state) s
       → pushOne c time m payload w .store
       ≡ paste (w .store) (placeAt c (s .pushed)) (drop (startOf (c .size) (w .work .made)) payload) (lengthOf (c .size) (length payload) (w .work .made))
   unfolding pushOne roomed

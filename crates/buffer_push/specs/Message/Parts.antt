@@ -1,8 +1,9 @@
--- What the parts of a push ask for, and what they leave.
---   Roomable, Appendable   what making room and a packet more ask for; Appended   what the latter leaves, whatever the loss list's words are
---   weighable, removable, covered, front-small   the front packet of books that stand for a sender which keeps the book rules
---   room-full, room-none, append-is              how the code makes `roomed` and `appended`
--- Assumes nothing.
+-- What the parts of a push require, and what they guarantee.
+--   Roomable, Appendable              what making room and appending a packet require
+--   Appended                          what appending guarantees, whatever the loss list's words are
+--   weighable, removable, covered, front-small
+--                                     the front packet, in books that represent a sender which keeps the rules
+--   room-full, room-none, append-is   the code computes `roomed` and `appended`
 use mathlib.Core.Path.{_≡_, _∙_}
 use mathlib.Core.List.{List}
 use Prim.Native.Nat.{ℕ, _+_, _-_, _*_, _^_, _≤_, _<_}
@@ -18,7 +19,7 @@ use Rattle.ring.specs.Ring.{slotOf, pushed}
 use Rattle.ring.specs.Ring.Laws.{Placed}
 use Rattle.rules.specs.Settings.{Settings}
 use Rattle.rules.specs.Sender.{Sender, wireSizes}
-use Rattle.rules.specs.Books.Laws.{Kept}
+use Rattle.rules_theorems.specs.Laws.BookRules.{Kept}
 use Rattle.rules_theorems.proofs.Packets.{sizes-drop}
 use Rattle.buffer.specs.declared.SendBuffer.{SendBuffer}
 use Rattle.buffer.specs.State.{State, view, packetsOf, put}
@@ -89,7 +90,7 @@ module _ (c : Settings) (p : Pushed) (ring lost : List ℕ) where
   unfolding roomed makeRoom gone wireSizes
   room-none h = rw (lt-leb (p .buffer .ring .cap) (p .buffer .ring .len) h, add-zero (p .removed), add-zero (p .bytes))
 
--- ## A packet more
+-- ## Appending a packet
 
 pub append-is : (c : Settings) (p : Pushed) (ring left : List ℕ) (e : Entry) (r : Ring) → r ≡ pushed (p .buffer .ring)
     → left ≡ writeE ring (slotOf (p .buffer .ring) (p .buffer .ring .len)) e

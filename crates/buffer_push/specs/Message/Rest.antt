@@ -1,10 +1,11 @@
--- What a packet of a message asks for, and that it holds packet after packet.
---   Rest            n packets of a message are still to come, the books stand for a sender that keeps the book rules, and every count has room
---   rest-one        one packet later one fewer is to come
---   Next            what a packet asks for: at least one is to come
---   Ahead, ahead    once room is made: the slot and the place of the packet, and its wire size on the byte count
---   cuttable, roomable, pushed-is   the packet is cut, room can be made, and the parts together are `pushOne`
--- Assumes nothing.
+-- What a packet of a message requires, and that this holds for one packet after the other.
+--   Rest           n packets of a message are still to come, the books represent a sender that keeps the book rules,
+--                  and no count can overflow
+--   rest-one       after one packet, one fewer is to come
+--   Next           what a packet requires: at least one is to come
+--   Ahead, ahead   once room is made: the slot and the place of the packet, and its wire size in the byte count
+--   cuttable, roomable, appendable, pushed-is   the packet can be cut and room made; the parts together are `pushOne`
+--   size-high, made-few, begins, part-lent   the bounds of the packet's size, index, start and bytes
 use mathlib.Core.Path.{_≡_, refl, sym, ap, _∙_}
 use mathlib.Core.List.{List, []}
 use Prim.Native.Nat.{ℕ, suc, _+_, _-_, _*_, _^_, _≤_, _<_}
@@ -14,29 +15,29 @@ use lib.Dec.{leb}
 use lib.ListN.{length, take, drop, length-take, length-drop}
 use lib.Seq.{paste, length-paste, take-length}
 use borrow.Author.Tests.{leb-true}
-use Rattle.refusals.specs.Choice.{cond-by}
-use Rattle.encapsulate.specs.Split.{count, pieceOf, startOf, lengthOf}
-use Rattle.encapsulate.specs.declared.Piece.{Piece}
-use Rattle.encapsulate.specs.Header.{placeBits}
-use Rattle.encapsulate.specs.Split.Laws.{Sized, Counted, Cut, count-within, start-within}
+use Rattle.laws.specs.Choice.{cond-by}
+use Rattle.rules_packets.specs.Split.{count, pieceOf, startOf, lengthOf}
+use Rattle.rules_packets.specs.declared.Piece.{Piece}
+use Rattle.rules_packets.specs.Header.{placeBits}
+use Rattle.encapsulate.specs.Laws.{Sized, Counted, Cut, count-within, start-within}
 use Rattle.ring.specs.declared.Entry.{Entry}
 use Rattle.ring.specs.Entry.{entry}
 use Rattle.ring.specs.Ring.{slotOf}
 use Rattle.ring.specs.Ring.Laws.{Placed, slot-below}
 use Rattle.rules.specs.Settings.{Settings, capacity, storeSize}
 use Rattle.rules.specs.Sender.{Packet, Sender, wireSizes}
-use Rattle.rules.specs.Books.Laws.{Kept}
+use Rattle.rules_theorems.specs.Laws.BookRules.{Kept}
 use Rattle.rules.specs.Message as rules
 use Rattle.rules_theorems.proofs.MessageKept.{room-kept, room-fits, append-kept, packets-unsent}
 use Rattle.buffer.specs.State.{State, state, view}
 use Rattle.buffer.specs.State.Facts.{stands-facts}
 use Rattle.buffer.specs.State.Stands.{Stands}
 use Rattle.buffer_push.specs.declared.Pushed.{Pushed}
-use Rattle.buffer_push.specs.Message.{Work, World, work, world, entryOf, gone, makeRoom, roomed, appended, nextPlace, pushOne}
+use Rattle.buffer_push.specs.Message.{Work, Pushing, work, pushing, entryOf, gone, makeRoom, roomed, appended, nextPlace, pushOne}
 use Rattle.buffer_push.specs.Message.OnePacket.{stands-room, room-made, stands-one}
 use Rattle.buffer_push.specs.Message.Parts.{Roomable, Appendable, Appended, front-small}
 
-pub record Rest (c : Settings) (time m : ℕ) (payload : List ℕ) (n : ℕ) (w : World) : Type 0 where
+pub record Rest (c : Settings) (time m : ℕ) (payload : List ℕ) (n : ℕ) (w : Pushing) : Type 0 where
   pub sender : Sender
   pub stands : Stands c (w .work .state) sender
   pub kept : Kept c sender
@@ -49,20 +50,20 @@ pub record Rest (c : Settings) (time m : ℕ) (payload : List ℕ) (n : ℕ) (w 
   pub wire : w .work .wire ≤ w .work .made * 1_584
   pub store : storeSize c ≤ length (w .store)
 
-pub record Next (c : Settings) (time m : ℕ) (payload : List ℕ) (n : ℕ) (w : World) : Type 0 where
+pub record Next (c : Settings) (time m : ℕ) (payload : List ℕ) (n : ℕ) (w : Pushing) : Type 0 where
   pub left : ℕ
   pub rest : Rest c time m payload (suc left) w
   pub count : n ≡ count (c .size) (length payload)
 
 -- once room is made for the next packet
-pub record Ahead (c : Settings) (payload : List ℕ) (w : World) (v : Work) : Type 0 where
+pub record Ahead (c : Settings) (payload : List ℕ) (w : Pushing) (v : Work) : Type 0 where
   pub placed : Placed (v .state .books .ring) (v .state .ring)
   pub room : v .state .books .ring .len < v .state .books .ring .cap
   pub made : v .made ≡ w .work .made
   pub place : nextPlace c (v .state) + c .size ≤ length (w .store)
   pub bytes : v .state .books .bytes + (lengthOf (c .size) (length payload) (w .work .made) + c .overhead) < 2 ^ 62
 
--- ## What goes is one packet at most
+-- ## At most one packet goes
 
 module _ {c : Settings} {st : State} {s : Sender} (S : Stands c st s) (K : Kept c s) where
   gone-few : length (gone c st) ≤ 1
@@ -77,13 +78,13 @@ module _ {c : Settings} {st : State} {s : Sender} (S : Stands c st s) (K : Kept 
       cond-by (λ (l : List Packet). wireSizes c l ≤ 1_584) (leb (st .books .ring .cap) (st .books .ring .len)) (take 1 (view st)) []
       (λ e. front-small S K (leb-true _ _ e)) (λ e. omega arith)
 
--- the payload from k on, as it is lent
+-- the lent payload from k on
 to-the-end : (k : ℕ) (xs : List ℕ) → take (length xs - k) (drop k xs) ≡ drop k xs
 to-the-end k xs = ap (λ (n : ℕ). take n (drop k xs)) (sym (length-drop k xs)) ∙ take-length (drop k xs)
 
 -- ## A packet of a message
 
-module _ {c : Settings} {time m : ℕ} {payload : List ℕ} {n : ℕ} {w : World} (R : Rest c time m payload (suc n) w) where
+module _ {c : Settings} {time m : ℕ} {payload : List ℕ} {n : ℕ} {w : Pushing} (R : Rest c time m payload (suc n) w) where
   abbrev i : ℕ
   i = w .work .made
 
@@ -123,7 +124,7 @@ module _ {c : Settings} {time m : ℕ} {payload : List ℕ} {n : ℕ} {w : World
     wire = omega (arith, R .wire, made-few);
   }
 
-  -- the packet's own wire size, and that of the others
+  -- the packet's own wire size, and the others'
   size-one : wireSizes c (rules.packetsFrom c time m (length payload) i (suc n))
       ≡ lengthOf (c .size) (length payload) i + c .overhead + wireSizes c (rules.packetsFrom c time m (length payload) (suc i) n)
   unfolding rules.packetsFrom rules.packetOf wireSizes
@@ -191,7 +192,7 @@ module _ {c : Settings} {time m : ℕ} {payload : List ℕ} {n : ℕ} {w : World
       }
 
 -- the parts together
-module _ (c : Settings) (time m : ℕ) (payload : List ℕ) (w : World) where
+module _ (c : Settings) (time m : ℕ) (payload : List ℕ) (w : Pushing) where
   abbrev laid : ℕ → List ℕ
   laid at = paste (w .store) at (drop (startOf (c .size) (w .work .made)) payload) (lengthOf (c .size) (length payload) (w .work .made))
 
@@ -202,10 +203,10 @@ module _ (c : Settings) (time m : ℕ) (payload : List ℕ) (w : World) where
       → store ≡ paste (w .store) at (take (length payload - piece .start) (drop (piece .start) payload)) (piece .len)
       → e ≡ entry time m (placeBits (piece .place)) (piece .len) 0 0
       → Appended c e q ring r left
-      → world (work r left lost) store ≡ pushOne c time m payload w
+      → pushing (work r left lost) store ≡ pushOne c time m payload w
   unfolding pushOne entryOf
   pushed-is q r ring lost left store piece e at cut roomy lies copied entered A =
       let entry-of : e ≡ entryOf c time m (length payload) (w .work .made) = entered ∙ rw cut in
       let copy : store ≡ laid (nextPlace c (state (q .buffer) ring lost)) = copied ∙ rw (to-the-end (piece .start) payload, cut, lies) in
-      λ j. world ((A .is lost ∙ (λ k. appended c (entry-of k) (roomy k))) j)
+      λ j. pushing ((A .is lost ∙ (λ k. appended c (entry-of k) (roomy k))) j)
       ((copy ∙ ap (λ (v : Work). laid (nextPlace c (v .state))) roomy) j)

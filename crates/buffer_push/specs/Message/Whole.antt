@@ -1,19 +1,18 @@
--- What a whole message asks for, and the loop over its packets.
---   Sendable                       what a message asks for: document 01's refusals 2 to 6 do not apply, pacing's counts aside
---   rest-opened                    all its packets are to come once it has its number
---   Going                          some are made, and the rest makes what all make from the start
---   going-opened, going-next, going-one, going-less, going-all, whole   at the start, at a packet, one packet later, at the end
--- Assumes nothing.
+-- What a whole message requires, and the loop over its packets.
+--   Sendable      what a message requires: refusals 2 to 6 don't apply, except for pacing's counts
+--   rest-opened   once it has its number, all its packets are to come
+--   Going         some are made, and those still to come lead to the same end as all from the start
+--   going-opened, going-next, going-one, going-less, going-all, whole   at the start, at a packet, after it, at the end
 use mathlib.Core.Path.{_≡_, refl, _∙_}
 use mathlib.Core.List.{List}
 use Prim.Native.Nat.{ℕ, zero, suc, _+_, _-_, _*_, _^_, _≤_, _<_}
 use native.Mathlib.Omega.{arith}
 use lib.ListN.{length}
-use Rattle.encapsulate.specs.Split.{count}
-use Rattle.encapsulate.specs.Split.Laws.{Sized}
+use Rattle.rules_packets.specs.Split.{count}
+use Rattle.encapsulate.specs.Laws.{Sized}
 use Rattle.rules.specs.Settings.{Settings, storeSize}
 use Rattle.rules.specs.Sender.{Sender}
-use Rattle.rules.specs.Books.Laws.{Kept}
+use Rattle.rules_theorems.specs.Laws.BookRules.{Kept}
 use Rattle.rules_theorems.proofs.MessageKept.{numbered-fields, sizes-message}
 use Rattle.rules_theorems.proofs.RunKept.{same-kept}
 use Rattle.buffer.specs.declared.SendBuffer.{SendBuffer}
@@ -21,7 +20,7 @@ use Rattle.buffer.specs.State.{State, state}
 use Rattle.buffer.specs.State.Facts.{stands-facts}
 use Rattle.buffer.specs.State.Stands.{Ready}
 use Rattle.buffer_push.specs.declared.Pushed.{Pushed}
-use Rattle.buffer_push.specs.Message.{World, work, world, roomed, appended, pushOne, pushes, begun, noneYet, opened, message}
+use Rattle.buffer_push.specs.Message.{Pushing, work, pushing, roomed, appended, pushOne, pushes, begun, noneYet, opened, message}
 use Rattle.buffer_push.specs.Message.Laws.{numbered, stands-numbered}
 use Rattle.buffer_push.specs.Message.Rest.{Rest, Next, rest-one}
 
@@ -62,19 +61,19 @@ module _ {c : Settings} {st : State} {time : ℕ} {payload store : List ℕ} (A 
         store = A .room;
       }
 
-pub record Going (c : Settings) (time m : ℕ) (payload : List ℕ) (n : ℕ) (start w : World) : Type 0 where
+pub record Going (c : Settings) (time m : ℕ) (payload : List ℕ) (n : ℕ) (start w : Pushing) : Type 0 where
   pub left : ℕ
   pub count : n ≡ count (c .size) (length payload)
   pub rest : Rest c time m payload left w
   pub same : pushes c time m payload left w ≡ pushes c time m payload n start
 
 -- at least one packet is to come
-record More (c : Settings) (time m : ℕ) (payload : List ℕ) (n : ℕ) (start w : World) : Type 0 where
+record More (c : Settings) (time m : ℕ) (payload : List ℕ) (n : ℕ) (start w : Pushing) : Type 0 where
   pub left : ℕ
   pub rest : Rest c time m payload (suc left) w
   pub same : pushes c time m payload left (pushOne c time m payload w) ≡ pushes c time m payload n start
 
-module _ {c : Settings} {time m : ℕ} {payload : List ℕ} {n : ℕ} {start w : World} where
+module _ {c : Settings} {time m : ℕ} {payload : List ℕ} {n : ℕ} {start w : Pushing} where
   more : Going c time m payload n start w → w .work .made < n → More c time m payload n start w
   unfolding pushes
   more G h = go (G .left) (G .rest) (G .same)
@@ -86,11 +85,11 @@ module _ {c : Settings} {time m : ℕ} {payload : List ℕ} {n : ℕ} {start w :
   pub going-next : Going c time m payload n start w → w .work .made < n → Next c time m payload n w
   going-next G h = let M = more G h in record { left = M .left; rest = M .rest; count = G .count }
 
-  pub going-one : Going c time m payload n start w → w .work .made < n → (v : World) → v ≡ pushOne c time m payload w
+  pub going-one : Going c time m payload n start w → w .work .made < n → (v : Pushing) → v ≡ pushOne c time m payload w
       → Going c time m payload n start v
   going-one G h v e = let M = more G h in rw e (record { left = M .left; count = G .count; rest = rest-one (M .rest); same = M .same })
 
-  pub going-less : Going c time m payload n start w → w .work .made < n → (v : World) → v ≡ pushOne c time m payload w
+  pub going-less : Going c time m payload n start w → w .work .made < n → (v : Pushing) → v ≡ pushOne c time m payload w
       → n - v .work .made < n - w .work .made
   unfolding pushOne appended roomed
   going-less G h v e = rw e (omega arith)
@@ -107,11 +106,11 @@ module _ {c : Settings} {time m : ℕ} {payload : List ℕ} {n : ℕ} {start w :
 module _ (c : Settings) (time n : ℕ) (payload : List ℕ) (b : SendBuffer) (ring lost store : List ℕ) (p : Pushed) (e : n ≡ count (c .size) (length payload))
     (f : p ≡ noneYet (begun b)) where
   pub going-opened : Sendable c (state b ring lost) time payload store
-      → Going c time (b .message .0) payload n (world (work p ring lost) store) (world (work p ring lost) store)
+      → Going c time (b .message .0) payload n (pushing (work p ring lost) store) (pushing (work p ring lost) store)
   unfolding opened
   going-opened A = rw f (record { left = n; count = e; rest = rw e (rest-opened A); same = refl })
 
-  pub whole : (w : World) → w ≡ pushes c time (b .message .0) payload n (world (work p ring lost) store)
+  pub whole : (w : Pushing) → w ≡ pushes c time (b .message .0) payload n (pushing (work p ring lost) store)
       → w ≡ message c time payload (state b ring lost) store
   unfolding message opened
   whole w g = g ∙ rw (e, f)

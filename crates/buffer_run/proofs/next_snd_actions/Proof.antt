@@ -1,10 +1,10 @@
--- `buffer_run::next_snd_actions` meets its contract: the loop keeps `Going`: what is still to do from here is what was to do from the start.
--- Assumes nothing.
+-- `buffer_run::next_snd_actions` meets its contract: the loop keeps `Going`: from here the run ends as it does from the
+-- start.
 use mathlib.Core.Path.{_≡_, refl, _∙_}
 use native.Mathlib.Omega.{arith}
 use lib.ListN.{length}
 use Rattle.buffer.specs.State.{settingsOf, state}
-use Rattle.buffer_run.specs.Run.{world, turn, loop}
+use Rattle.buffer_run.specs.Run.{walk, turn, loop}
 use Rattle.buffer_run.specs.Run.Turns.{run-none}
 use Rattle.buffer_run.specs.Run.Going.{Going, run-from, going-start, going-turning, going-on, going-less, going-end, going-done}
 use borrow.Author.Needs.{needs}
@@ -13,7 +13,7 @@ use Rattle.buffer_run.proofs.next_snd_actions.Tie as tie
 
 abbrev Inv-loop : tie.InvT-loop
 Inv-loop c ts-now budget draining ring₀ lost out₀ here₀ n₀ left₀ ring out here n left =
-    Going (settingsOf c) ts-now draining (loop (turn (settingsOf c) ts-now draining) left₀ left₀ (world (state here₀ ring₀ lost) out₀ n₀ left₀)) (world (state here ring lost) out n left)
+    Going (settingsOf c) ts-now draining (loop (turn (settingsOf c) ts-now draining) left₀ left₀ (walk (state here₀ ring₀ lost) out₀ n₀ left₀)) (walk (state here ring lost) out n left)
     × (length ring ≡ length ring₀)
     × (length out ≡ length out₀)
 

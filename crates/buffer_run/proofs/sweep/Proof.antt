@@ -1,5 +1,4 @@
--- `buffer_run::sweep` meets its contract: where the front is late, and where it isn't.
--- Assumes nothing.
+-- `buffer_run::sweep` meets its contract: whether or not the front is late.
 use mathlib.Core.List.{[]}
 use native.Mathlib.Omega.{arith}
 use Rattle.buffer.specs.State.Facts.{stands-facts, stands-readable}

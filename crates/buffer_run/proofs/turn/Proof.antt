@@ -1,5 +1,4 @@
--- `buffer_run::turn` meets its contract: each rule does what `act` says of it.
--- Assumes nothing.
+-- `buffer_run::turn` meets its contract: each rule does what `act` says.
 use mathlib.Core.Path.{refl, sym, _∙_}
 use mathlib.Core.Bool.{true, false}
 use native.Mathlib.Omega.{arith}

@@ -1,7 +1,6 @@
--- A turn on books that stand for a sender is the rules' turn of that sender.
---   earliest-shift              rule 3's choice by place and by number
---   turn-stands                 any turn of rules 2 to 7
--- Assumes nothing.
+-- A turn on books that represent a sender is the turn of that sender in the rules.
+--   due-sent      the packet that rule 3 chooses is a sent one
+--   turn-stands   any turn of rules 2 to 7
 pub mod Whole
 use mathlib.Core.Path.{_≡_, refl, sym, ap, _∙_, subst}
 use mathlib.Core.Bool.{Bool, true, false, _&&_, cond}
@@ -12,13 +11,13 @@ use native.Mathlib.Omega.{arith}
 use lib.Dec.{ltb, eqb}
 use lib.ListN.{length, take}
 use borrow.Author.Tests.{ltb-true, eqb-true}
+use Rattle.laws.specs.Bools.{and-r}
 use Rattle.rules.specs.Settings.{Settings}
 use Rattle.rules.specs.Sender.{Packet, Sender, end, sentOf}
-use Rattle.rules.specs.Books.Laws.{Kept}
+use Rattle.rules_theorems.specs.Laws.BookRules.{Kept}
 use Rattle.rules.specs.Run as Rules
 use Rattle.rules.specs.Run.{Turn, earliest, orHere}
-use Rattle.rules.specs.Run.Laws.{isDue}
-use Rattle.rules_theorems.proofs.Frame.{and-r}
+use Rattle.rules_theorems.specs.Laws.Run.{isDue}
 use Rattle.rules_theorems.proofs.None.{due-some}
 use Rattle.rules_theorems.proofs.RunKept.{first-kept}
 use Rattle.buffer.specs.State.{State}
@@ -26,7 +25,7 @@ use Rattle.buffer.specs.State.Stands.{Stands}
 use Rattle.buffer.specs.State.Reports.{ltb-add}
 use Rattle.run_choice.specs.Choice.{ruleBy, dueAt, ruleAt}
 use Rattle.buffer_run.specs.Run.{act, turn}
-use Rattle.run_effects.specs.Sending.Stands.{TurnStands, few, stands-loss, stands-due, stands-window, stands-next, stands-unsent, stands-flush, stands-input}
+use Rattle.run_effects.specs.Sending.Stands.{TurnStands, few, loss-refines, due-refines, window-refines, next-refines, unsent-refines, flush-refines, input-refines}
 
 abbrev shift : ℕ → Option ℕ → Option ℕ
 shift f none = none
@@ -72,14 +71,14 @@ module _ {c : Settings} (now : ℕ) (draining : Bool) where
         → (x : Bool) → (x ≡ true → 1 ≤ st .books .ring .len)
         → TurnStands c (act c now draining (ruleBy (length l) d o m x) st) (Rules.obey c now draining (Rules.first l (shift (s .front) d) o m x) s)
     unfolding act ruleBy Rules.first Rules.obey Rules.send
-    by-rule (y ∷ ys) e d g o m more x one = stands-loss S K now draining y ys e
-    by-rule [] e (some i) g o m more x one = stands-due S K now draining i (due-sent i g)
-    by-rule [] e none g true m more x one = stands-window S K now draining
+    by-rule (y ∷ ys) e d g o m more x one = loss-refines S K now draining y ys e
+    by-rule [] e (some i) g o m more x one = due-refines S K now draining i (due-sent i g)
+    by-rule [] e none g true m more x one = window-refines S K now draining
     by-rule [] e none g false true more x one =
-        stands-unsent now draining st (stands-next S K now draining (more refl))
+        unsent-refines now draining st (next-refines S K now draining (more refl))
         (first-kept c now draining early s (let h = more refl in omega (arith, h, few S, S .next)) K) refl
-    by-rule [] e none g false false more true one = stands-flush S K now draining (one refl)
-    by-rule [] e none g false false more false one = stands-input S K now draining
+    by-rule [] e none g false false more true one = flush-refines S K now draining (one refl)
+    by-rule [] e none g false false more false one = input-refines S K now draining
 
     pub turn-stands : TurnStands c (turn c now draining st) (Rules.others c now draining s)
     unfolding turn ruleAt Rules.others Rules.rule

@@ -1,10 +1,10 @@
--- Where the loop of a run is: so much of the run is still to do, and its records lie within the list.
---   InLoop                      books that stand for a sender, from which the rest of the run ends as the run does
---   loop-done                   the budget is gone
---   turn-end, turn-on           a turn ends the run, or the loop goes on
---   turn-some, turn-room, turn-cost   a turn writes a record, has room for two, and costs a unit for each where it goes on
---   swept-in                    the loop begins, after rule 1
--- Assumes nothing.
+-- How far the loop of a run is: what is still to do, and that its records fit in the list.
+--   InLoop                            books that represent a sender; from here the loop ends as the run does
+--   loop-done                         the budget is used up
+--   turn-end, turn-on                 a turn ends the run, or the loop goes on
+--   turn-some, turn-room, turn-cost   a turn writes a record, has room for two, and costs a unit for each if it goes on
+--   t, u                              the turn on the books, and in the rules
+--   swept-in                          the loop begins, after rule 1
 use mathlib.Core.Path.{_≡_, refl, sym, ap, _∙_, subst}
 use mathlib.Core.Bool.{Bool, true, false, true≢false}
 use mathlib.Core.List.{List}
@@ -13,12 +13,12 @@ use native.Mathlib.Omega.{arith}
 use lib.ListN.{length, length-append}
 use Rattle.rules.specs.Settings.{Settings}
 use Rattle.rules.specs.Sender.{Sender}
-use Rattle.rules.specs.Books.Laws.{Kept}
+use Rattle.rules_theorems.specs.Laws.BookRules.{Kept}
 use Rattle.rules.specs.Records.{Action, sends}
 use Rattle.rules.specs.Run as Rules
 use Rattle.rules.specs.Run.{Turn, Result, others, late}
-use Rattle.rules.specs.Run.Laws as rules
-use Rattle.rules.specs.Run.Laws.{Paid, stop, one, two}
+use Rattle.rules_theorems.specs.Laws.Run as rules
+use Rattle.rules_theorems.specs.Laws.Run.{Paid, stop, one, two}
 use Rattle.rules_theorems.proofs.Frame.{late-le}
 use Rattle.rules_theorems.proofs.Room.{split-room}
 use Rattle.rules_theorems.proofs.RunKept.{others-kept, dropped-kept}
@@ -28,14 +28,14 @@ use Rattle.buffer.specs.State.{State}
 use Rattle.buffer.specs.State.Stands.{Stands, Ready}
 use Rattle.buffer.specs.State.View.{packets-length}
 use Rattle.run_effects.specs.Sending.{Turned, dropped}
-use Rattle.run_effects.specs.Sending.Stands.{TurnStands, stands-dropped}
-use Rattle.buffer_run.specs.Run.{World, turn, after, loop, sweptBy, swept, run}
+use Rattle.run_effects.specs.Sending.Stands.{TurnStands, dropped-refines}
+use Rattle.buffer_run.specs.Run.{Walk, turn, after, loop, sweptBy, swept, run}
 use Rattle.buffer_run.specs.Run.Laws.{turn-stands}
 use Rattle.buffer_run.specs.Run.Laws.Whole.{loop-ends, loop-goes}
 
 module _ (c : Settings) (now : ℕ) (draining : Bool) where
-  -- the run's end is `goal`, and no record will lie beyond the list's `room` records, with one to spare
-  pub record InLoop (goal : World) (room : ℕ) (w : World) : Type 0 where
+  -- the run ends at `goal`, and its records fit in the list's `room` records, with one to spare
+  pub record InLoop (goal : Walk) (room : ℕ) (w : Walk) : Type 0 where
     pub fuel : ℕ
     pub sender : Sender
     pub stands : Stands c (w .state) sender
@@ -44,18 +44,18 @@ module _ (c : Settings) (now : ℕ) (draining : Bool) where
     pub same : loop (turn c now draining) fuel (w .left) w ≡ goal
     pub fits : w .count + length (Rules.loop (others c now draining) fuel (w .left) sender .records) + 1 ≤ room
 
-loop-zero : (tn : State → Turned) (f : ℕ) (w : World) → loop tn f 0 w ≡ w
+loop-zero : (tn : State → Turned) (f : ℕ) (w : Walk) → loop tn f 0 w ≡ w
 unfolding loop
 loop-zero tn zero w = refl
 loop-zero tn (suc f) w = refl
 
-module _ (c : Settings) (now : ℕ) (draining : Bool) (goal : World) (room : ℕ) where
-  pub loop-done : (w : World) → InLoop c now draining goal room w → w .left ≡ 0 → w ≡ goal
+module _ (c : Settings) (now : ℕ) (draining : Bool) (goal : Walk) (room : ℕ) where
+  pub loop-done : (w : Walk) → InLoop c now draining goal room w → w .left ≡ 0 → w ≡ goal
   loop-done w I e =
       sym (loop-zero (turn c now draining) (I .fuel) w)
       ∙ subst (λ (b : ℕ). loop (turn c now draining) (I .fuel) b w ≡ goal) e (I .same)
 
-  module _ (early : now < 2 ^ 48) (w : World) (I : InLoop c now draining goal room w) where
+  module _ (early : now < 2 ^ 48) (w : Walk) (I : InLoop c now draining goal room w) where
     abbrev pub t : Turned
     t = turn c now draining (w .state)
 
@@ -69,7 +69,7 @@ module _ (c : Settings) (now : ℕ) (draining : Bool) (goal : World) (room : ℕ
     unfolding Rules.others
     paid = obey-paid c now draining (Rules.rule c now draining (I .sender)) (I .sender)
 
-    -- where budget is left, the fuel and the budget are those of a turn more
+    -- where budget is left, fuel and budget suffice for another turn
     record Ahead : Type 0 where
       pub fuel : ℕ
       pub rest : ℕ
@@ -165,7 +165,7 @@ module _ (c : Settings) (now : ℕ) (draining : Bool) (early : now < 2 ^ 48) (st
   abbrev s : Sender
   s = R .sender
 
-  abbrev start : World
+  abbrev start : Walk
   start = record { state = st; out = out; count = 0; left = suc p }
 
   by-late : (k : ℕ) → k ≤ length (s .packets)
@@ -174,7 +174,7 @@ module _ (c : Settings) (now : ℕ) (draining : Bool) (early : now < 2 ^ 48) (st
   unfolding Rules.dropped dropped
   by-late zero h f = record { fuel = suc p; sender = s; stands = R .stands; kept = R .kept; enough = omega arith; same = refl; fits = omega (arith, f) }
   by-late (suc k) h f =
-      let T = stands-dropped (R .stands) now k h in
+      let T = dropped-refines (R .stands) now k h in
       record {
         fuel = suc p;
         sender = Rules.dropped c now (suc k) s .after;

@@ -1,12 +1,12 @@
--- What the code of a run asks for, and what it leaves: a turn, rule 1, and no budget.
---   Turning                     what a turn asks for: books that stand for a sender which keeps the book rules, and room for two records
---   Done, Swept                 what is left by a turn, and by rule 1
---   Runnable                    what a run asks for: "Room needed: min(p, buffered) + 3 records."
---   done-by, turn-is            what a turn leaves, by the rule that was done
---   loss-some, due-inside, unsent-more, flush-one   what holds where a rule is the first that applies
---   swept-none, swept-some, late-few   no packet is late, or k are, and no more than there are
---   run-none                    a run without budget
--- Assumes nothing.
+-- What the code of a run requires and guarantees: for a turn, for rule 1, and without budget.
+--   Turning                            what a turn requires: books of a sender that keeps the book rules, room for two
+--                                      records
+--   Done, Swept                        what is left by a turn, and by rule 1
+--   Runnable                           what a run requires: "Room needed: min(p, buffered) + 3 records."
+--   done-by, turn-is                   what a turn leaves, by the rule that was done
+--   loss-some, due-inside, unsent-more, flush-one   what holds if a rule is the first that applies
+--   swept-none, swept-some, late-few   no packet is late, or k are, and k is at most the number buffered
+--   run-none                           a run without budget
 use mathlib.Core.Path.{_≡_, refl, sym, ap, _∙_, subst}
 use mathlib.Core.Bool.{Bool, true, false, _&&_}
 use mathlib.Core.List.{List}
@@ -16,9 +16,10 @@ use native.Mathlib.Omega.{arith}
 use lib.Dec.{ltb, eqb}
 use lib.ListN.{length}
 use borrow.Author.Tests.{ltb-true, eqb-true}
+use Rattle.laws.specs.Bools.{and-r}
 use Rattle.rules.specs.Settings.{Settings}
 use Rattle.rules.specs.Run.{late}
-use Rattle.rules_theorems.proofs.Frame.{and-r, late-le}
+use Rattle.rules_theorems.proofs.Frame.{late-le}
 use Rattle.buffer.specs.declared.SendBuffer.{SendBuffer}
 use Rattle.buffer.specs.State.{State, state, packetsOf}
 use Rattle.buffer.specs.State.Facts.{stands-facts}
@@ -30,7 +31,7 @@ use Rattle.run_choice.specs.Choice.{ruleBy, dueAt, ruleAt}
 use Rattle.run_effects.specs.declared.Written.{Written}
 use Rattle.run_effects.specs.Sending.{Turned, Acted, written}
 use Rattle.run_effects.specs.Sending.Rules.{Drops}
-use Rattle.buffer_run.specs.Run.{world, act, turn, swept, run}
+use Rattle.buffer_run.specs.Run.{walk, act, turn, swept, run}
 use Rattle.buffer_run.specs.Run.Laws.{due-sent}
 
 pub record Turning (c : Settings) (now : ℕ) (st : State) (n : ℕ) (out : List ℕ) : Type 0 where
@@ -42,7 +43,7 @@ pub record Done (c : Settings) (now : ℕ) (draining : Bool) (before : State) (n
   pub acted : Acted (turn c now draining) before n out left m list
   pub ended : ends ≡ turn c now draining before .ends
 
--- rule 1 or nothing
+-- rule 1, or nothing
 pub record Swept (c : Settings) (now : ℕ) (before : State) (out : List ℕ) (left : State) (m : ℕ) (list : List ℕ) : Type 0 where
   pub is : (draining : Bool) (b : ℕ) → record { state = left; out = list; count = m; left = b } ≡ swept c now draining (record { state = before; out = out; count = 0; left = b })
 
@@ -67,7 +68,7 @@ done-by c now draining st n out left m list tn ends e f A = record {
   ended = f ∙ sym (ap (λ (t : Turned). t .ends) e);
 }
 
--- what holds where a rule is the first that applies
+-- what holds if a rule is the first that applies
 abbrev Says : ℕ → Option ℕ → Bool → Bool → Rule → Type 0
 Says n d m x rule.Loss = 0 < n
 Says n d m x (rule.Due i) = d ≡ some i
@@ -137,7 +138,7 @@ module _ (c : Settings) (now : ℕ) (b : SendBuffer) (ring lost out : List ℕ) 
   pub late-few : k ≤ b .ring .len
   late-few = let f = late-le c now (packetsOf (b .ring) ring) in let n = packets-length (b .ring) ring in omega (arith, e, f, n)
 
-pub run-none : (c : Settings) (now : ℕ) (draining : Bool) (p : ℕ) (st : State) (out : List ℕ) → p < 1 → world st out 0 0 ≡ run c now draining p st out
+pub run-none : (c : Settings) (now : ℕ) (draining : Bool) (p : ℕ) (st : State) (out : List ℕ) → p < 1 → walk st out 0 0 ≡ run c now draining p st out
 unfolding run
 run-none c now draining zero st out h = refl
 run-none c now draining (suc p) st out h = absurd (omega arith)

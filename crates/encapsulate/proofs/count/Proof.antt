@@ -1,7 +1,6 @@
 -- `encapsulate::count` meets its contract: the larger of 1 and the quotient, which is at most the length (`count-within`).
--- Assumes nothing.
 use native.Mathlib.Omega.{arith}
-use Rattle.encapsulate.specs.Split.Laws.{count-within}
+use Rattle.encapsulate.specs.Laws.{count-within}
 use borrow.Author.Needs.{needs}
 use Rattle.encapsulate.proofs.count.Statement.{statement}
 use Rattle.encapsulate.proofs.count.Tie as tie

@@ -1,12 +1,14 @@
 -- `encapsulate::judge` meets its contract: the tests, chained by `when`.
--- Assumes nothing.
-use Rattle.encapsulate.specs.Split.{judge}
+use Rattle.rules_packets.specs.Split.{judge}
 use borrow.Author.Needs.{needs}
 use Rattle.encapsulate.proofs.judge.Statement.{statement}
 use Rattle.encapsulate.proofs.judge.Tie as tie
 
 when-requires : tie.Need-when-requires
 when-requires c κs = search needs
+
+cast-when : tie.Need-cast-when
+cast-when c = search needs
 
 when-requires-2 : tie.Need-when-requires-2
 when-requires-2 c κs = search needs
@@ -19,4 +21,4 @@ unfolding judge
 returns c = cc
 
 pub judge-spec : {M : Type 1} → statement M
-judge-spec = tie.close (tie.spec when-requires when-requires-2 when-requires-3 returns)
+judge-spec = tie.close (tie.spec when-requires cast-when when-requires-2 when-requires-3 returns)

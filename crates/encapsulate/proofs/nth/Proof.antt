@@ -1,7 +1,6 @@
 -- `encapsulate::nth` meets its contract: none past the count, else what `cut` ensures.
--- Assumes nothing.
 use borrow.Author.Tests.{le-leb, lt-leb}
-use Rattle.encapsulate.specs.Split.{nth}
+use Rattle.rules_packets.specs.Split.{nth}
 use borrow.Author.Needs.{needs}
 use Rattle.encapsulate.proofs.nth.Statement.{statement}
 use Rattle.encapsulate.proofs.nth.Tie as tie

@@ -1,10 +1,9 @@
 -- `encapsulate::packet` meets its contract: refused as `judge` says, else what `nth` ensures.
--- Assumes nothing.
 use mathlib.Core.Path.{_∙_, sym}
-use Rattle.encapsulate.specs.declared.Cutting.the-variants.{Refused}
-use Rattle.encapsulate.specs.Split.{piece}
-use Rattle.encapsulate.specs.Split.Laws.{judge-sized}
-use Rattle.refusals.specs.Verdict.Laws.{answer-refused, answer-accepted}
+use Rattle.rules_packets.specs.declared.Cutting.the-variants.{Refused}
+use Rattle.rules_packets.specs.Split.{piece}
+use Rattle.encapsulate.specs.Laws.{judge-sized}
+use Rattle.refusals.specs.Laws.{answer-refused, answer-accepted}
 use borrow.Author.Needs.{needs}
 use Rattle.encapsulate.proofs.packet.Statement.{statement}
 use Rattle.encapsulate.proofs.packet.Tie as tie

@@ -1,10 +1,9 @@
 -- `encapsulate::packets` meets its contract: refused as `judge` says, else the count.
--- Assumes nothing.
 use mathlib.Core.Path.{_∙_, sym}
-use Rattle.encapsulate.specs.declared.Split.the-variants.{Refused}
-use Rattle.encapsulate.specs.Split.{split}
-use Rattle.encapsulate.specs.Split.Laws.{judge-sized}
-use Rattle.refusals.specs.Verdict.Laws.{answer-refused, answer-accepted}
+use Rattle.rules_packets.specs.declared.Split.the-variants.{Refused}
+use Rattle.rules_packets.specs.Split.{split}
+use Rattle.encapsulate.specs.Laws.{judge-sized}
+use Rattle.refusals.specs.Laws.{answer-refused, answer-accepted}
 use borrow.Author.Needs.{needs}
 use Rattle.encapsulate.proofs.packets.Statement.{statement}
 use Rattle.encapsulate.proofs.packets.Tie as tie

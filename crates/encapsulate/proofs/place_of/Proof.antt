@@ -1,7 +1,6 @@
 -- `encapsulate::place_of` meets its contract: the tests are those of `placeOf`.
--- Assumes nothing.
 use borrow.Author.Tests.{eq-eqb, ne-eqb}
-use Rattle.encapsulate.specs.Split.{placeOf}
+use Rattle.rules_packets.specs.Split.{placeOf}
 use borrow.Author.Needs.{needs}
 use Rattle.encapsulate.proofs.place_of.Statement.{statement}
 use Rattle.encapsulate.proofs.place_of.Tie as tie

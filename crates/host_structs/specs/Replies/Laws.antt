@@ -1,21 +1,20 @@
--- What a host reads off an answer.
---   refused-some     a refusal's number is not 0, so 0 says that the call was accepted
+-- What a host can tell from an answer.
+--   refused-some   a refusal's number is not 0, so 0 means that the call was accepted
 --   message-after, nak-after, run-after   the sender in the answer is the sender after the call
--- Assumes nothing.
 use mathlib.Core.Path.{_≡_, refl}
 use Prim.Native.Nat.{_≤_}
 use native.Mathlib.Omega.{arith}
-use Rattle.refusals.specs.declared.Refusal.{Refusal}
-use Rattle.refusals.specs.declared.Refusal.the-variants.{BadSetting, BadStore, BadState, BadTime, TooLong, CountFull, BadNumber, BadRtt, Empty, InvalidAck, StaleFullAck, BadNak, NoRoom, NotHeld}
+use Rattle.rules_refusals.specs.declared.Refusal.{Refusal}
+use Rattle.rules_refusals.specs.declared.Refusal.the-variants.{BadSetting, BadStore, BadState, BadTime, TooLong, CountFull, BadNumber, BadRtt, Empty, InvalidAck, StaleFullAck, BadNak, NoRoom, NotHeld}
 use Rattle.sender.specs.declared.Messaged.{Messaged}
 use Rattle.sender.specs.declared.Messaged.the-variants as messaged
 use Rattle.sender.specs.Calls.Stands as Message
-use Rattle.answers.specs.declared.Reported.{Reported}
-use Rattle.answers.specs.declared.Reported.the-variants as reported
-use Rattle.answers.specs.Naks.Stands as Nak
-use Rattle.sender_run.specs.declared.Ran.{Ran}
-use Rattle.sender_run.specs.declared.Ran.the-variants as ran
-use Rattle.sender_run.specs.Runs.Stands as Run
+use Rattle.nak.specs.declared.Reported.{Reported}
+use Rattle.nak.specs.declared.Reported.the-variants as reported
+use Rattle.nak.specs.Naks.Stands as Nak
+use Rattle.run.specs.declared.Ran.{Ran}
+use Rattle.run.specs.declared.Ran.the-variants as ran
+use Rattle.run.specs.Runs.Stands as Run
 use Rattle.host_structs.specs.declared.senders.FlatSender.{FlatSender}
 use Rattle.host_structs.specs.Senders.{senderOf}
 use Rattle.host_structs.specs.Senders.Laws.{read-back}

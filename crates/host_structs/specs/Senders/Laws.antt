@@ -1,7 +1,8 @@
--- Numbers and sender are one and the same: what is written is read back, and books that keep the rules are written as they were.
---   flushed-back, next-back, mode-back, read-back   a sender's numbers stand for it
---   held-kept, next-kept, mode-kept, kept-back      numbers that keep the book rules are those of the sender that they stand for
--- Assumes nothing.
+-- Reading back a sender that was written as numbers gives that sender; writing one that was read from numbers that keep
+-- the book rules gives those numbers.
+--   flushed-back, next-back, mode-back, read-back   a sender is read back from its numbers
+--   held-kept, next-kept, mode-kept, kept-back   numbers that keep the book rules are those of the sender they encode
+--   NextSame, ModeSame   the same for next and for the mode, field by field
 use mathlib.Core.Path.{_≡_, refl, sym}
 use mathlib.Core.Bool.{Bool, true, false, _&&_, cond, and-eq-true-iff}
 use mathlib.Core.List.{List}
@@ -9,13 +10,13 @@ use Prim.Native.Nat.{ℕ}
 use lib.Dec.{eqb}
 use lib.ListN.{length}
 use borrow.Author.Tests.{eqb-true}
-use Rattle.pacing.specs.declared.options.LiveBandwidthMode.{LiveBandwidthMode}
-use Rattle.pacing.specs.declared.options.LiveBandwidthMode.the-variants.{Input, Estimated, Max, Unlimited}
-use Rattle.pacing.specs.declared.Next.{Next}
-use Rattle.pacing.specs.declared.Next.the-variants.{Unset, At}
-use Rattle.pacing.specs.Books as Pacing
-use Rattle.pacing.specs.Books.{nextInRange}
-use Rattle.pacing.specs.Period.{modeInRange}
+use Rattle.rules_pacing.specs.declared.LiveBandwidthMode.{LiveBandwidthMode}
+use Rattle.rules_pacing.specs.declared.LiveBandwidthMode.the-variants.{Input, Estimated, Max, Unlimited}
+use Rattle.rules_pacing.specs.declared.Next.{Next}
+use Rattle.rules_pacing.specs.declared.Next.the-variants.{Unset, At}
+use Rattle.rules_pacing.specs.Kept as Pacing
+use Rattle.rules_pacing.specs.Kept.{nextInRange}
+use Rattle.rules_pacing.specs.Period.{modeInRange}
 use Rattle.rules.specs.Settings.{Settings}
 use Rattle.buffer.specs.declared.Flushed.{Flushed}
 use Rattle.buffer.specs.declared.Flushed.the-variants.{Nothing, Held}
@@ -24,7 +25,7 @@ use Rattle.book_rules.specs.Kept as Buffer
 use Rattle.book_rules.specs.Kept.{flushedKept, numbersKept, areasKept}
 use Rattle.book_rules.specs.Kept.Laws.{numbers-facts}
 use Rattle.sender.specs.declared.Sender.{Sender}
-use Rattle.sender.specs.Books.{books, kept}
+use Rattle.sender.specs.SenderAndAreas.{books, kept}
 use Rattle.host_structs.specs.declared.senders.HeldPacket.{HeldPacket}
 use Rattle.host_structs.specs.declared.senders.FlatSender.{FlatSender}
 use Rattle.host_structs.specs.Senders.{noPacket, flushedOf, heldFrom, nextOf, begunFrom, timeFrom, modeOf, codeFrom, rateFrom, overheadFrom, senderOf, flatFrom}
@@ -52,9 +53,9 @@ pub read-back : (s : Sender) → senderOf (flatFrom s) ≡ s
 unfolding senderOf flatFrom
 read-back s = rw (flushed-back (s .buffer .flushed), next-back (s .pacing .next), mode-back (s .pacing .«bandwidth_mode»))
 
--- ## What is kept is written as it was
+-- ## Kept numbers are written as they were
 
--- a test of a chain that holds
+-- the first of two tests that hold
 left : (a b : Bool) → (a && b) ≡ true → a ≡ true
 left a b e = and-eq-true-iff a b .0 e .0
 

@@ -1,5 +1,4 @@
--- `host_timers::nanoseconds` meets its contract: each case is its case of `nanoseconds`.
--- Assumes nothing.
+-- `host_timers::nanoseconds` meets its contract: each case is the same case of `nanoseconds`.
 use Rattle.host_timers.specs.TimersAnswers.{nanoseconds}
 use borrow.Author.Needs.{needs}
 use Rattle.host_timers.proofs.nanoseconds.Statement.{statement}

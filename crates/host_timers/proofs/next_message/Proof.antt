@@ -1,5 +1,4 @@
 -- `host_timers::next_message` meets its contract: the test is the case of `nextMessage`.
--- Assumes nothing.
 use borrow.Author.Needs.{needs}
 use Rattle.host_timers.proofs.next_message.Statement.{statement}
 use Rattle.host_timers.proofs.next_message.Tie as tie

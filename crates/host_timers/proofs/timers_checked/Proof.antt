@@ -1,5 +1,4 @@
--- `host_timers::timers_checked` meets its contract: each case is its case of `timersChecked`.
--- Assumes nothing.
+-- `host_timers::timers_checked` meets its contract: each case is the same case of `timersChecked`.
 use Rattle.host_timers.specs.TimersAnswers.{timersChecked}
 use borrow.Author.Needs.{needs}
 use Rattle.host_timers.proofs.timers_checked.Statement.{statement}

@@ -1,5 +1,4 @@
--- `host_timers::timers_set` meets its contract: each case is its case of `timersSet`.
--- Assumes nothing.
+-- `host_timers::timers_set` meets its contract: each case is the same case of `timersSet`.
 use Rattle.host_timers.specs.TimersAnswers.{timersSet}
 use borrow.Author.Needs.{needs}
 use Rattle.host_timers.proofs.timers_set.Statement.{statement}

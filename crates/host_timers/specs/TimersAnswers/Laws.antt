@@ -1,19 +1,18 @@
--- That 0 is free to stand for nothing.
---   Some e         a check that tells periods tells at least one
---   ticked-some    every check is such
--- Assumes nothing.
+-- 0 can mean that no period elapsed.
+--   Some e        a check that finds periods finds at least one
+--   ticked-some   every check is such
 use mathlib.Core.Path.{_≡_}
 use Prim.Native.Nat.{ℕ, _+_, _-_, _*_, _/_, _≤_, _<_, min}
 use native.Mathlib.Nat.{le-div-iff-mul-le}
 use native.Mathlib.Omega.{arith}
 use lib.Dec.{ltb, eqb}
 use borrow.Author.Tests.{eqb-false, ltb-false}
-use Rattle.refusals.specs.Choice.{cond-by}
-use Rattle.timer.specs.declared.Elapsed.{Elapsed}
-use Rattle.timer.specs.declared.Elapsed.the-variants.{Nothing, Periods}
-use Rattle.timer.specs.declared.Ticked.{Ticked}
-use Rattle.timer.specs.declared.Timer.{Timer}
-use Rattle.timer.specs.Timer.{most, periods, ticked}
+use Rattle.laws.specs.Choice.{cond-by}
+use Rattle.rules_timers.specs.declared.Elapsed.{Elapsed}
+use Rattle.rules_timers.specs.declared.Elapsed.the-variants.{Nothing, Periods}
+use Rattle.rules_timers.specs.declared.Ticked.{Ticked}
+use Rattle.rules_timers.specs.declared.Timer.{Timer}
+use Rattle.rules_timers.specs.Timer.{most, periods, ticked}
 
 abbrev pub Some : Elapsed → Type 0
 Some Nothing = Unit {0}

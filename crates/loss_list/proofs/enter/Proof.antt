@@ -1,7 +1,7 @@
--- `loss_list::enter` meets its contract: between the two places that `remove_below` finds, the moves and the writes leave what `Entering` says.
--- Assumes nothing.
+-- `loss_list::enter` meets its contract: `remove_below` finds two places, and moving and writing between them leaves
+-- what `Entering` says.
 use native.Mathlib.Omega.{arith}
-use Rattle.numbers.specs.Modular.{seqs, dist}
+use Rattle.rules_numbers.specs.Modular.{seqs, dist}
 use Rattle.loss_list.specs.LossList.Laws.{Entering, entering, staying-few}
 use borrow.Author.Needs.{needs}
 use Rattle.loss_list.proofs.enter.Statement.{statement}

@@ -1,5 +1,4 @@
--- `loss_list::in_order` meets its contract: each way through its tests gives what the definition computes.
--- Assumes nothing.
+-- `loss_list::in_order` meets its contract: each path through its tests gives what the definition computes.
 use borrow.Author.Tests.{lt-ltb, le-ltb, le-leb, lt-leb}
 use Rattle.loss_list.proofs.in_order.Statement.{statement}
 use Rattle.loss_list.proofs.in_order.Tie as tie

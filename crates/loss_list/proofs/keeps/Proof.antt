@@ -1,11 +1,11 @@
--- `loss_list::keeps` meets its contract. After i entries in order what is left to check is the rest of the list, below the last key.
--- Assumes nothing.
+-- `loss_list::keeps` meets its contract. After i entries in order, the rest of the list is left to check, with keys
+-- below the last.
 use mathlib.Core.Path.{_≡_, sym, ap, _∙_}
 use Prim.Native.Nat.{ℕ, _-_, _≤_}
 use lib.ListN.{length, take, drop}
 use borrow.Author.Tests.{not-true, not-false}
 use native.Mathlib.Omega.{arith}
-use Rattle.numbers.specs.Modular.{seqs, dist}
+use Rattle.rules_numbers.specs.Modular.{seqs, dist}
 use Rattle.loss_list.specs.LossList.{descends, keeps}
 use Rattle.loss_list.specs.LossList.Laws.{descends-on, descends-not, descends-end, keeps-is, keeps-beyond}
 use borrow.Author.Needs.{needs}

@@ -1,5 +1,4 @@
--- `loss_list::move_up` meets its contract: each turn of the loop moves one element more (`moved-step`).
--- Assumes nothing.
+-- `loss_list::move_up` meets its contract: each turn of the loop moves one more element (`moved-step`).
 use mathlib.Core.Path.{_≡_, refl}
 use Prim.Native.Nat.{_≤_}
 use lib.ListN.{length}

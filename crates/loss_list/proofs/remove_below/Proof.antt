@@ -1,10 +1,9 @@
--- `loss_list::remove_below` meets its contract. The loop passes the entries at the end that go (`staying-on`), and stops at the first that stays
--- (`staying-end`).
--- Assumes nothing.
+-- `loss_list::remove_below` meets its contract. The loop goes back past the entries that are removed (`staying-on`),
+-- and stops at the first that stays (`staying-end`).
 use mathlib.Core.Path.{_≡_, refl, sym, _∙_}
 use Prim.Native.Nat.{_≤_}
 use native.Mathlib.Omega.{arith}
-use Rattle.numbers.specs.Modular.{seqs, dist}
+use Rattle.rules_numbers.specs.Modular.{seqs, dist}
 use Rattle.loss_list.specs.LossList.{staying}
 use Rattle.loss_list.specs.LossList.Laws.{staying-on, staying-end, staying-none}
 use borrow.Author.Needs.{needs}

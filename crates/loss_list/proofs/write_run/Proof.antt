@@ -1,5 +1,4 @@
--- `loss_list::write_run` meets its contract: each turn of the loop writes one number more (`written-step`).
--- Assumes nothing.
+-- `loss_list::write_run` meets its contract: each turn of the loop writes one more number (`written-step`).
 use mathlib.Core.Path.{_≡_, refl}
 use Prim.Native.Nat.{_+_, _-_, _≤_}
 use lib.ListN.{length}

@@ -1,13 +1,14 @@
 -- What the code uses of the loss list, on plain lists and for every key.
---   Fits, Left                  what a function asks of the area, and what it leaves: the list's length and every element
---   Filled                      what taking the nearest out asks for
---   moved, written              an area with some elements moved up, and with a run written
---   length-over, take-over, set-over, over-over   an area with a list in its first elements: its length, the list, one entry more, a longer list
---   staying-none, staying-on, staying-end, staying-few   no entry; the last entry goes, or stays and all before it; no more stay than there were
---   staying-taken               only those n elements count
---   Entering, entering          what `enter` leaves, by the two places in the list
+--   Fits, Left           what a function requires of the area, and what it leaves: the list's length and elements
+--   Filled               what taking out the nearest requires
+--   moved, written       an area with some elements moved up, and with a run written
+--   length-over, take-over, set-over, over-over
+--                        an area with a list in its first elements: its length, the list, one more entry, a longer list
+--   staying-none, staying-on, staying-end, staying-few
+--                        no entry; the last entry goes, or stays with all before it; no more stay than there were
+--   staying-taken        only the first n elements count
+--   Entering, entering   what `enter` leaves, given the two places in the list
 --   descends-on, descends-not, descends-end, keeps-is, keeps-beyond   the check, entry by entry
--- Assumes nothing.
 use mathlib.Core.Path.{_≡_, refl, sym, ap, _∙_}
 use mathlib.Core.Bool.{Bool, true, false, cond}
 use mathlib.Core.List.{List, [], _∷_, _++_, append-assoc}
@@ -19,7 +20,7 @@ use lib.Dec.{ltb}
 use lib.ListN.{length, take, drop, set, getD, length-append, length-drop, drop-of-length-le}
 use lib.Seq.{slice, length-slice, take-take, drop-cons, drop-at, drop-append-add, drop-drop, getD-take, set-append-seam, append-snoc, length-take-le, take-append-seam, take-append-le}
 use borrow.Author.Tests.{lt-ltb, le-ltb, le-leb, lt-leb}
-use Rattle.numbers.specs.Modular.{seqs, plus, dist}
+use Rattle.rules_numbers.specs.Modular.{seqs, plus, dist}
 use Rattle.loss_list.specs.LossList.{over, staying, falling, entered, inOrder, descends, keeps}
 
 -- the first n elements of the area e become the list xs, which is no shorter
@@ -28,7 +29,7 @@ pub record Fits (n : ℕ) (xs e : List ℕ) : Type 0 where
   pub grows : n ≤ length xs
   pub room : length xs ≤ length e
 
--- of the area e, l is left, whose first n elements are the list xs
+-- the area e becomes l, whose first n elements are the list xs
 pub record Left (n : ℕ) (l xs e : List ℕ) : Type 0 where
   pub count : n ≡ length xs
   pub area : l ≡ over xs e
@@ -38,11 +39,11 @@ pub record Filled (n : ℕ) (e : List ℕ) : Type 0 where
   pub some : 0 < n
   pub inside : n ≤ length e
 
--- of the area l, the elements from i up to n stand by further
+-- the area l with the elements from i up to n moved up
 abbrev pub moved : List ℕ → ℕ → ℕ → ℕ → List ℕ
 moved l i n by = take (i + by) l ++ (slice i n l ++ drop (n + by) l)
 
--- of the area l, the k numbers from x on stand from i up to n
+-- the area l with the k numbers from x on written from i up to n
 abbrev pub written : List ℕ → ℕ → ℕ → ℕ → ℕ → List ℕ
 written l i n x k = take i l ++ (falling x k ++ drop n l)
 
@@ -105,7 +106,7 @@ unfolding falling
 length-falling x zero = refl
 length-falling x (suc k) = ap suc (length-falling x k)
 
--- the k numbers from x on go between the places far and near of the list in the first n elements of e
+-- the k numbers from x on enter between the places far and near of the list in the first n elements of e
 pub record Entering (key : ℕ → ℕ) (x k n : ℕ) (e : List ℕ) (near far : ℕ) : Type 0 where
   pub inside : near ≤ n
   pub before : far ≤ near
@@ -114,7 +115,7 @@ pub record Entering (key : ℕ → ℕ) (x k n : ℕ) (e : List ℕ) (near far :
   pub left : (l m : List ℕ) → m ≡ moved e near n (far + k - near) → l ≡ written m (far + k - k) (far + k) x k
       → Left (n + (far + k - near)) l (entered key x k (take n e)) e
 
--- near is the place of the run's first number, and far that of the one behind its last
+-- near is the place of the run's first number, and far that of the number after its last
 module _ (key : ℕ → ℕ) (x k n : ℕ) (e : List ℕ) (near far : ℕ) (a : near ≡ staying key (key x) n e) (b : far ≡ staying key (key (plus seqs x k)) near e)
     (F : Fits n (entered key x k (take n e)) e) where
   near-few : near ≤ n

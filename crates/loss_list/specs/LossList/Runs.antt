@@ -1,11 +1,11 @@
--- The loss list of the rules, and a run of numbers that enters it in one piece: behind the numbers below it, and before those above.
---   nearer n xs            the numbers of xs up to the first that is not below n
---   run n k xs             those, and the k numbers from n on
---   from-all, from-from    where none is below n, all stay; removing twice is removing by the higher bound
---   nearer-from            a list that ascends is what lies below n and what lies from n on
---   entered-run            what the rules enter number by number, in one piece
---   ascends-snoc, entered-ascends, entered-longer   order with one more at the end, and with a run; no list becomes shorter
--- Assumes nothing.
+-- The loss list of the rules, and a run of numbers entered in one piece: after the numbers below it, before those
+-- above.
+--   nearer n xs                    the numbers of xs up to the first that is not below n
+--   run n k xs                     those, and the k numbers from n on
+--   from-all, from-from            if none is below n, all stay; removing twice is removing by the higher bound
+--   nearer-from                    an ascending list is its part below n followed by its part from n on
+--   entered-run                    what the rules enter number by number, entered in one piece
+--   entered-longer                 no list becomes shorter
 use mathlib.Core.Path.{_≡_, refl, sym, ap, _∙_}
 use mathlib.Core.Bool.{Bool, true, false, cond}
 use mathlib.Core.List.{List, [], _∷_, _++_}
@@ -16,9 +16,9 @@ use lib.Dec.{ltb, eqb}
 use lib.ListN.{length}
 use lib.Seq.{append-snoc}
 use borrow.Author.Tests.{lt-ltb, le-ltb, ltb-true, ltb-false, eq-eqb, ne-eqb}
+use Rattle.laws.specs.Ascending.{Ascends, ascends-snoc}
 use Rattle.rules.specs.Sender as rules
 use Rattle.rules.specs.Losses as losses
-use Rattle.rules.specs.Books.Laws.{Ascends}
 use Rattle.rules_theorems.proofs.Lists.{insert-ascends}
 
 unfoldable pub nearer : ℕ → List ℕ → List ℕ
@@ -66,15 +66,6 @@ nearer-ascends lo hi n (x ∷ xs) a = go (ltb x n) refl (nearer-ascends (suc x) 
 
 -- ## Order
 
-pub ascends-snoc : (lo hi n : ℕ) (xs : List ℕ) → lo ≤ n → n < hi → Ascends lo n xs → Ascends lo hi (xs ++ (n ∷ []))
-ascends-snoc lo hi n [] p q a = (p, q, tt)
-ascends-snoc lo hi n (x ∷ xs) p q a = (a .0, omega (arith, a .1), ascends-snoc (suc x) hi n xs (a .1) q (a .2))
-
-pub entered-ascends : (lo hi n k : ℕ) (xs : List ℕ) → lo ≤ n → n + k ≤ hi → Ascends lo hi xs → Ascends lo hi (losses.entered n k xs)
-unfolding losses.entered
-entered-ascends lo hi n zero xs p q a = a
-entered-ascends lo hi n (suc k) xs p q a = entered-ascends lo hi (suc n) k (rules.insert n xs) (omega arith) (omega arith) (insert-ascends lo hi n xs p (omega arith) a)
-
 run-ascends : (lo hi n k : ℕ) (lost : List ℕ) → lo ≤ n → Ascends lo hi lost → Ascends lo (n + k) (run n k lost)
 unfolding run
 run-ascends lo hi n zero lost h a = let e : n + 0 ≡ n = omega arith in rw e (nearer-ascends lo hi n lost a)
@@ -82,7 +73,7 @@ run-ascends lo hi n (suc k) lost h a = ascends-snoc lo (n + suc k) (n + k) (run 
 
 -- ## Entering
 
--- n enters behind the numbers below it, and before those above
+-- n enters after the numbers below it, before those above
 insert-past : (lo n : ℕ) (xs ys : List ℕ) → Ascends lo n xs → rules.insert n (xs ++ ys) ≡ xs ++ rules.insert n ys
 unfolding rules.insert
 insert-past lo n [] ys a = refl
@@ -103,7 +94,7 @@ insert-from lo hi n (x ∷ xs) a = go (decLt x n) (insert-from (suc x) hi n xs (
         there (yes m) = rw (lt-ltb n x m, le-ltb x (suc n) (omega arith))
         there (no m) = let e : n ≡ x = omega arith in rw (le-ltb n x (omega arith), eq-eqb n x e, lt-ltb x (suc n) (omega arith), e)
 
--- the rules enter a run from its first number on; the last one may as well come last
+-- the rules enter a run from its first number on; the last number can as well be entered last
 entered-last : (n k : ℕ) (lost : List ℕ) → losses.entered n (suc k) lost ≡ rules.insert (n + k) (losses.entered n k lost)
 unfolding losses.entered
 entered-last n zero lost = let e : n + 0 ≡ n = omega arith in rw e

@@ -1,17 +1,17 @@
--- The loss list of the rules, whose numbers count up without wrapping, and the list in the area: one stands for the other, and each
--- operation on the area gives the list of the rules' result. `front` is the rules' front; the area's is `wire front`.
---   keyOf front           the area's key: the distance from the front
---   farFirst lost         the list on the wire, the other way round: the number nearest the front last
---   Stands lost front xs  xs is that list, and `lost` ascends from the front on, less than 2^31 away
---   seen front xs         the numbers that xs stands for
---   key-wire, wire-plus   the key of a number, and the number k further, on the wire
---   stands-none, stands-length  the empty list; as many entries
---   stands-first, stands-pop    the number nearest the front, first in the rules and last in the area; it goes
---   stands-from, stands-below   those below n go, and the front moves to n; how many those are
---   far-snoc                    one number more at the far end
+-- The list in the area represents the loss list of the rules, whose numbers count up without wrapping; each operation
+-- on the area represents the same operation in the rules. `front` is the front in the rules; in the area it is `wire
+-- front`.
+--   keyOf front                    the area's key: the distance from the front
+--   farFirst lost                  the list on the wire, reversed: the number nearest the front last
+--   Stands lost front xs           xs is that list, and `lost` ascends from the front on, less than 2^31 away
+--   seen front xs                  the numbers that xs represents
+--   key-wire, wire-plus            the key of a number, and the number k further, on the wire
+--   stands-none, stands-length     the empty list; the same number of entries
+--   stands-first, stands-pop       the number nearest the front, first in the rules and last in the area; its removal
+--   stands-from, stands-below      those below n go, and the front moves to n; how many they are
+--   far-snoc                       one more number at the far end
 --   stands-entered, stands-grows   a run of numbers enters, each once, as in the rules; no list becomes shorter
--- Assumes nothing.
-pub mod Books
+pub mod BookRules
 use mathlib.Core.Path.{_≡_, refl, sym, ap, _∙_}
 use mathlib.Core.Bool.{Bool, true, false, cond}
 use mathlib.Core.List.{List, [], _∷_, _++_, append-nil, append-assoc}
@@ -24,22 +24,23 @@ use lib.Dec.{ltb}
 use lib.ListN.{length, take, drop, getD, length-append}
 use lib.Seq.{getD-append-seam, getD-take, length-take-le, take-at, take-take, drop-at, take-length}
 use borrow.Author.Tests.{lt-ltb, le-ltb, ltb-false}
-use Rattle.numbers.specs.Modular.{seqs, plus, dist}
-use Rattle.numbers.specs.Modular.Laws.{plus-is}
+use Rattle.laws.specs.Ascending.{Ascends, widen}
+use Rattle.rules_numbers.specs.Modular.{seqs, plus, dist}
+use Rattle.rules_numbers.specs.Modular.Laws.{plus-is}
 use Rattle.rules.specs.Numbers.{wire}
-use Rattle.rules.specs.Numbers.Laws.{wire-below, distance-wire, distance-is-dist}
+use Rattle.rules_theorems.specs.Laws.Numbers.{wire-below, distance-wire, distance-is-dist}
 use Rattle.rules.specs.Sender as rules
 use Rattle.rules.specs.Losses as losses
-use Rattle.rules.specs.Books.Laws.{Ascends}
-use Rattle.rules_theorems.proofs.Lists.{widen, from-ascends}
+use Rattle.rules_theorems.proofs.Lists.{from-ascends}
 use Rattle.loss_list.specs.LossList.{staying, falling, entered}
 use Rattle.loss_list.specs.LossList.Laws.{staying-few}
-use Rattle.loss_list.specs.LossList.Runs.{nearer, run, from-all, from-from, nearer-from, entered-run, entered-ascends, entered-longer}
+use Rattle.rules_theorems.proofs.Entering.{entered-ascends}
+use Rattle.loss_list.specs.LossList.Runs.{nearer, run, from-all, from-from, nearer-from, entered-run, entered-longer}
 
 abbrev pub keyOf : ℕ → ℕ → ℕ
 keyOf front = dist seqs (wire front)
 
--- the numbers as they stand in the area
+-- the numbers as they are in the area
 abbrev pub farFirst : List ℕ → List ℕ
 farFirst [] = []
 farFirst (n ∷ ns) = farFirst ns ++ (wire n ∷ [])
@@ -60,7 +61,7 @@ key-wire f n h k = sym (distance-is-dist (wire f) (wire n) (wire-below f) (wire-
 pub wire-plus : (n k : ℕ) → plus seqs (wire n) k ≡ wire (n + k)
 wire-plus n k = plus-is seqs (wire n) k ∙ mod-add-mod n (2 ^ 31) k
 
--- order by distance from f is that of the numbers
+-- the order by distance from f is the order of the numbers
 module _ (f n m : ℕ) (h : f ≤ n) (k : f ≤ m) where
   ltb-less : ltb (n - f) (m - f) ≡ ltb n m
   ltb-less = go (decLt n m)
@@ -105,7 +106,7 @@ module _ {n : ℕ} {lost : List ℕ} {front : ℕ} where
 -- ## Those below a number go
 
 module _ (f n : ℕ) (low : f ≤ n) where
-  -- where the last entry stays, all do
+  -- if the last entry stays, all do
   from-wire : (lo : ℕ) (lost : List ℕ) (len : ℕ) (e : List ℕ) → f ≤ lo → Ascends lo (f + 2 ^ 31) lost → len ≤ length e → take len e ≡ farFirst lost
       → take (staying (keyOf f) (n - f) len e) e ≡ farFirst (rules.from n lost)
   unfolding staying rules.from

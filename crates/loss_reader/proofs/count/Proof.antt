@@ -1,7 +1,6 @@
--- `loss_reader::count` meets its contract: a walk of its MIR, by hand, of which `new`, `next` and `Step::width` are known by their contracts alone. In
--- each turn of the loop the local that holds the reader is lent to `next` for a lifetime within that of the words, and comes back moved; the
--- invariant is `Turn`.
--- Assumes nothing.
+-- `loss_reader::count` meets its contract: a walk through its MIR, by hand, that uses only the contracts of `new`,
+-- `next` and `Step::width`. In each turn of the loop the local with the reader is lent to `next` for a lifetime within
+-- that of the words; the invariant is `Turn`.
 use mathlib.Core.Path.{_≡_, refl, ap, _∙_}
 use Prim.Native.Nat.{ℕ, _<_, _≤_, _^_, _+_}
 use native.Mathlib.Omega.{arith}
@@ -57,7 +56,7 @@ use Rattle.loss_words.proofs.Step as S
 use Rattle.loss_words.proofs.Step.Laws as S′
 use Rattle.loss_words.proofs.Step.width as width
 use Rattle.loss_words.proofs.Step.width.Symbol as width-def
-use Rattle.loss_words.proofs.Step.width.Symbol.{name as #words·width}
+use Rattle.loss_words.proofs.Step.width.Symbol.{name as #loss-words·width}
 use Rattle.loss_words.proofs.Step.width.Met as width-thm
 use Rattle.loss_reader.specs.Reading.{start, here, moved, counts}
 use Rattle.loss_reader.specs.Reading.Counting.{Turn, standing, turn-first, turn-within, turn-ends, turn-on, turn-on-less, turn-fits}
@@ -67,13 +66,13 @@ use Rattle.loss_reader.proofs.LossReader as T
 use Rattle.loss_reader.proofs.LossReader.Laws as T′
 use Rattle.loss_reader.proofs.LossReader.new as new
 use Rattle.loss_reader.proofs.LossReader.new.Symbol as new-def
-use Rattle.loss_reader.proofs.LossReader.new.Symbol.{name as #reader·new}
+use Rattle.loss_reader.proofs.LossReader.new.Symbol.{name as #loss-reader·new}
 use Rattle.loss_reader.proofs.LossReader.new.Met as new-thm
 use Rattle.loss_reader.proofs.LossReader.next as next
 use Rattle.loss_reader.proofs.LossReader.next.Symbol as next-def
-use Rattle.loss_reader.proofs.LossReader.next.Symbol.{name as #reader·next}
+use Rattle.loss_reader.proofs.LossReader.next.Symbol.{name as #loss-reader·next}
 use Rattle.loss_reader.proofs.LossReader.next.Met as next-thm
-use Rattle.loss_reader.proofs.count.Key.{name as #reader·count}
+use Rattle.loss_reader.proofs.count.Key.{name as #loss-reader·count}
 use Rattle.loss_reader.proofs.count as count
 use Rattle.loss_reader.proofs.count.Statement as stated
 use Rattle.loss_reader.proofs.count.Code as code
@@ -112,11 +111,11 @@ module _ {M : Type 1} (𝓤 : URA M) (H : Heap 𝓤) (A : Atoms 𝓤) (W : Given
   abbrev v : Val
   v = sliceVal (s .ptr) (length (s .now))
 
-  -- the struct's type as `next` has it
+  -- the struct's type in `next`
   abbrev α : NamedLft
   α = record { mir = named 1; lft = κ }
 
-  -- and as a local has it
+  -- and in a local
   abbrev αᵉ : NamedLft
   αᵉ = record { mir = erased; lft = κ }
 
@@ -227,7 +226,7 @@ module _ {M : Type 1} (𝓤 : URA M) (H : Heap 𝓤) (A : Atoms 𝓤) (W : Given
   Fewer-wf = InvImage·wf (λ (x : Turn s). x .left) (Nat·lt-wfRel .wf)
 
   module _ (𝓣 : Tables 𝓤 H) (fm : FmC 𝓤 H (W .laws) (𝓣 .C)) (room : length (now s) < 2 ^ 64)
-      (known-new : Triple 𝓤 (𝓣 .C #reader·new) (New 𝓤 H A at-mem run)) (known-next : Triple 𝓤 (𝓣 .C #reader·next) (Next 𝓤 H A at-mem run)) (known-width : Triple 𝓤 (𝓣 .C #words·width) (Width 𝓤 H A at-mem run)) where
+      (known-new : Triple 𝓤 (𝓣 .C #loss-reader·new) (New 𝓤 H A at-mem run)) (known-next : Triple 𝓤 (𝓣 .C #loss-reader·next) (Next 𝓤 H A at-mem run)) (known-width : Triple 𝓤 (𝓣 .C #loss-words·width) (Width 𝓤 H A at-mem run)) where
     abbrev C : Calls 𝓤 H
     C = 𝓣 .C
 
@@ -240,7 +239,7 @@ module _ {M : Type 1} (𝓤 : URA M) (H : Heap 𝓤) (A : Atoms 𝓤) (W : Given
     next-fits : (x : Turn s) → 0 < widthOf (here (standing s x)) → x .n + 1 < 2 ^ 64
     next-fits x h = omega (arith, room, turn-fits s x h)
 
-    -- what the test tells
+    -- what follows from the test
     none : (x : Turn s) (r : Step) (n : ℕ) → r ≡ here (standing s x) → n ≡ widthOf r → Holds (ltb n 1) → widthOf (here (standing s x)) ≡ 0
     none x r n e f t =
         let k : n < 1 = ltb→lt n 1 t in
@@ -272,18 +271,21 @@ module _ {M : Type 1} (𝓤 : URA M) (H : Heap 𝓤) (A : Atoms 𝓤) (W : Given
           move ! (15 ∷ 0 ∷ []) $ use2 W (‵ (mem B .lies (standing s x) l₂ 0)) (lies (standing s x) l₂) $ lft-new ! tt (λ ν. move ! (1 ∷ []) $
           use1 W (later (some (λ (δ : GName). ‵ (MutRef (named 0) (ν ∷ κ) B .own (record { ptr = (l₂, 0); name = δ; now = standing s x }) (vptr l₂ 0 ∷ [])) ⊛ ‵ (flent (ν ∷ κ) (Behind (mem B) l₂ 0 δ))))) (lends-ref 𝓤 H A W B (named 0) (ν ∷ κ) (standing s x) l₂ 0) $ await ! tt $ pick ! (λ δ. split ! $
           move ! (0 ∷ 2 ∷ 3 ∷ []) $ use3 W (raw (Next 𝓤 H A at-mem run .pre (to-next ν l₂ δ (standing s x))) ⊛ raw (Rest ν)) (goes-next ν l₂ δ (standing s x)) $ split ! $
-          -- [what `next` asks; the rest of the token; the lender's part; what s owns; _8; …; _7; …; _6; …; _5; …; _4; …; _3; …; …; _1; …; room for _0; …]
+          -- [what `next` asks; the rest of the token; the lender's part; what s owns; _8; …; _7; …; _6; …; _5; …; _4;
+          -- …; _3; …; …; _1; …; room for _0; …]
           calls-at ! fm (Next 𝓤 H A at-mem run) known-next (to-next ν l₂ δ (standing s x)) (and-then ! (load ! (from ! (stop !)) (look ! 8 refl)) (no-more !)) (λ u.
           use1 W (later (some (λ (r : Step). ((‵ (flft (ν ∷ κ) (PosShare·left q)) ⊛ ‵ (flft κ (PosShare·right q)) ⊛ ‵ ftrue) ⊛ ‵ (S.the-row .own r (u ∷ []))) ⊛ raw (ensured 𝓤 H A next.ended (next.clauses 𝓤 H A at-mem run) (ν ∷ κ, (κ, tt)) (lent ν l₂ δ (standing s x), tt) tt r)))) (id⊢ 𝓤 _) $ await ! tt $ pick ! (λ r.
           split ! $ move ! (1 ∷ []) $ use1 W (some (λ (ws : LossReader × Unit {0}). ‵ (lasts next.ended (ν ∷ κ, (κ, tt)) (lent ν l₂ δ (standing s x), tt) ws) ⊛ raw (fact 𝓤 ((r ≡ here (standing s x)) × (ws .0 ≡ moved (standing s x)))))) (id⊢ 𝓤 _) $ pick ! (λ ws.
           split ! $ move ! (1 ∷ []) $ heard ! ((r ≡ here (standing s x)) × (ws .0 ≡ moved (standing s x))) (λ e. fsplit ! $ rewrite ! 0 (λ (k : LossReader). ‵ (fres δ (B .coded .code k))) (e .1) refl $
           move ! (2 ∷ []) $ split ! $ move ! (1 ∷ []) $ peeks ! S.the-row (Is S.the-row) (shows 𝓤 H A S.the-row) r (u ∷ []) (λ is.
           land ! (from ! (stop !)) (init ! 15 refl (EL.lawful S.the-type S′.the-laws 𝓤 H A W tt .typed r _ is .0)) $
-          -- [what the step owns; the tokens; the last value; …; the rest of the token; the lender's part; what s owns; _8; …]: the lifetime is ended, and the reader is back
+          -- [what the step owns; the tokens; the last value; …; the rest of the token; the lender's part; what s owns;
+          -- _8; …]: the lifetime is ended, and the reader is back
           move ! (1 ∷ 4 ∷ []) $ use2 W (‵ (flft (ν ∷ []) fullShare) ⊛ Tok) (tokens-back ν) $ split ! $ lft-end ! tt $ use1 W (‵ (fdead (ν ∷ κ))) (W .lfts .dead-incl (ν ∷ κ) (ν ∷ []) (meet-⊑-left (ν ∷ []) κ)) $
           move ! (0 ∷ 5 ∷ 3 ∷ []) $ use3 W (later (‵ (mem B .lies (moved (standing s x)) l₂ 0))) (ref-back 𝓤 H A W B (ν ∷ κ) δ (moved (standing s x)) l₂ 0) $ await ! tt $
           use1 W (‵ (fat fullShare held l₂ 0 (T′.lowered (moved (standing s x)))) ⊛ ‵ (Own (moved (standing s x)))) (lay (moved (standing s x)) l₂) $ split ! $
-          -- [the reader's cell; what it owns; the token; what the step owns; …; what s owns; _8; …; _7; …; _6; …; _5; …; _4; …; _3; …; …; _1; …; room for _0; …]
+          -- [the reader's cell; what it owns; the token; what the step owns; …; what s owns; _8; …; _7; …; _6; …; _5;
+          -- …; _4; …; _3; …; …; _1; …; room for _0; …]
           move ! (3 ∷ []) $ use1 W (raw (Width 𝓤 H A at-mem run .pre (to-width 𝓤 H A W at-mem run r u))) (goes-width 𝓤 H A W at-mem run r u) $
           calls-at ! fm (Width 𝓤 H A at-mem run) known-width (to-width 𝓤 H A W at-mem run r u) (and-then ! (load ! (from ! (stop !)) (look ! 14 refl)) (no-more !)) (λ w.
           use1 W (later (some (λ (n : ℕ). (‵ ftrue ⊛ ‵ (usize .own n (w ∷ []))) ⊛ raw (ensured 𝓤 H A width.ended (width.clauses 𝓤 H A at-mem run) tt (r, tt) tt n)))) (id⊢ 𝓤 _) $ await ! tt $ pick ! (λ n.
@@ -292,7 +294,7 @@ module _ {M : Type 1} (𝓤 : URA M) (H : Heap 𝓤) (A : Atoms 𝓤) (W : Given
           land ! (from ! (stop !)) (init ! 7 refl (uint-lawful 𝓤 H A W w64 .typed n _ num .0)) $ rewrite ! 7 (λ (k : Val). ‵ (fat fullShare word l₇ 0 k)) (ap only (num .0)) refl $
           assigns ! (bin ! (load ! (from ! (stop !)) (look ! 7 refl)) (lit ! tt) tt) (from ! (stop !)) (init ! 5 refl (tt, tt)) $
           first ! $ branches ! (load ! (from ! (stop !)) (look ! 5 refl))
-          -- no item stands there: the count is returned
+          -- there is no item: the count is returned
           (λ less. assigns ! (of-opd ! (load ! (from ! (stop !)) (look ! 15 refl))) (from ! (stop !)) (init ! 20 refl (tt, record { fits = fits x })) $ returns-within ! Post refl (look ! 20 refl) $
           forget ! 0 refl $ forget ! 5 refl $ forget ! 7 refl $ forget ! 9 refl $ forget ! 13 refl $ forget ! 15 refl $ forget ! 18 refl $ forget ! 20 refl $
           move ! (20 ∷ 21 ∷ []) $ free1 ! $ move ! (18 ∷ 19 ∷ []) $ free1 ! $ move ! (0 ∷ 17 ∷ []) $ free1 ! $ move ! (14 ∷ 15 ∷ []) $ free1 ! $ move ! (12 ∷ 13 ∷ []) $ free1 ! $ move ! (10 ∷ 11 ∷ []) $ free1 ! $ move ! (8 ∷ 9 ∷ []) $ free1 ! $ move ! (6 ∷ 7 ∷ []) $ free1 ! $ move ! (4 ∷ 5 ∷ []) $ free1 ! $ free0 ! $
@@ -313,7 +315,8 @@ module _ {M : Type 1} (𝓤 : URA M) (H : Heap 𝓤) (A : Atoms 𝓤) (W : Given
         calls-at ! fm (New 𝓤 H A at-mem run) known-new to-new (and-then ! (load ! (from ! (stop !)) (look ! 16 refl)) (no-more !)) (λ u.
         use1 W (later (some (λ (r : LossReader). (Tok ⊛ ‵ (B .own r (u ∷ []))) ⊛ raw (ensured 𝓤 H A new.ended (new.clauses 𝓤 H A at-mem run) (κ, tt) (s, tt) tt r)))) (id⊢ 𝓤 _) $ await ! tt $ pick ! (λ r.
         split ! $ move ! (1 ∷ []) $ use1 W (raw (fact 𝓤 (r ≡ start s))) (new-said r) $ heard ! (r ≡ start s) (λ e. split ! $ move ! (1 ∷ []) $ rewrite ! 0 (λ (k : LossReader). ‵ (B .own k (u ∷ []))) e refl $
-        -- [what the reader owns; the token; what s owns; _8; …; _7; …; _6; …; _5; …; _4; …; _3; …; _2; …; _1; …; room for _0; …]
+        -- [what the reader owns; the token; what s owns; _8; …; _7; …; _6; …; _5; …; _4; …; _3; …; _2; …; _1; …; room
+        -- for _0; …]
         peeks ! B (Is B) (shows 𝓤 H A B) (start s) (u ∷ []) (λ is.
         land ! (from ! (stop !)) (init ! 9 refl (LL.lawful (T.the-type αᵉ) (T′.the-laws αᵉ) 𝓤 H A W .typed (start s) _ is .0)) $
         assigns ! (of-opd ! (load ! (from ! (stop !)) (look ! 9 refl))) (from ! (stop !)) (init ! 15 refl (LL.lawful (T.the-type αᵉ) (T′.the-laws αᵉ) 𝓤 H A W .typed (start s) _ is .0)) $ forget ! 9 refl $
@@ -322,12 +325,12 @@ module _ {M : Type 1} (𝓤 : URA M) (H : Heap 𝓤) (A : Atoms 𝓤) (W : Given
         first ! $ blocks ! $ loops ! 𝓣 Fewer Fewer-wf (At l₀ l₁ l₂ l₃ l₄ l₅ l₆ l₇ l₈) (turns l₀ l₁ l₂ l₃ l₄ l₅ l₆ l₇ l₈) (turn-first s))))))))))))))
 
 module _ {M : Type 1} (𝓤 : URA M) (H : Heap 𝓤) (A : Atoms 𝓤) (W : Given 𝓤 H A) (mem : Memory → SProp 𝓤) (run : Routine → Fun 𝓤) (𝓣 : Tables 𝓤 H) where
-  count-walks : Triple 𝓤 (𝓣 .C #reader·new) (New 𝓤 H A mem run) → Triple 𝓤 (𝓣 .C #reader·next) (Next 𝓤 H A mem run) → Triple 𝓤 (𝓣 .C #words·width) (Width 𝓤 H A mem run)
+  count-walks : Triple 𝓤 (𝓣 .C #loss-reader·new) (New 𝓤 H A mem run) → Triple 𝓤 (𝓣 .C #loss-reader·next) (Next 𝓤 H A mem run) → Triple 𝓤 (𝓣 .C #loss-words·width) (Width 𝓤 H A mem run)
       → Walks 𝓤 H A count.ended stayed (WpFn 𝓤 H (𝓣 .C) (𝓣 .Λ) code.function) (count.clauses 𝓤 H A mem run)
   count-walks known-new known-next known-width = walked 𝓤 H A count.ended stayed (count.clauses 𝓤 H A mem run) (WpFn 𝓤 H (𝓣 .C) (𝓣 .Λ) code.function) (λ κs. (slice-vals, tt)) (λ κs. (shr-slice-tells (named 0) (κs .0) u32, tt))
       (λ κs qs bounds a g are. via 𝓤 _ (fst∗ 𝓤 _ (emp 𝓤)) (walk 𝓤 H A W mem run (κs .0) (qs .0) (a .0) 𝓣 (fmOf 𝓤 H (W .laws) 𝓣) (are .0 .0 .1 .0) known-new known-next known-width (are .0)))
 
-  count-meets : Triple 𝓤 (𝓣 .C #reader·new) (New 𝓤 H A mem run) → Triple 𝓤 (𝓣 .C #reader·next) (Next 𝓤 H A mem run) → Triple 𝓤 (𝓣 .C #words·width) (Width 𝓤 H A mem run)
+  count-meets : Triple 𝓤 (𝓣 .C #loss-reader·new) (New 𝓤 H A mem run) → Triple 𝓤 (𝓣 .C #loss-reader·next) (Next 𝓤 H A mem run) → Triple 𝓤 (𝓣 .C #loss-words·width) (Width 𝓤 H A mem run)
       → Meets 𝓤 H A count.signature (WpFn 𝓤 H (𝓣 .C) (𝓣 .Λ) code.function) (count.spec 𝓤 H A mem run)
   count-meets known-new known-next known-width = walk-meets 𝓤 H A count.ended stayed W (goes-none-slice 𝓤 H A W 1 (0 ∷ []) tt (plain (λ _. u32)) yes, tt) (count.clauses 𝓤 H A mem run) (WpFn 𝓤 H (𝓣 .C) (𝓣 .Λ) code.function) (WpFn-mono 𝓤 H (W .laws) 𝓣 code.function)
       (count-walks known-new known-next known-width)
@@ -336,8 +339,8 @@ pub count-spec : {M : Type 1} → stated.statement M
 unfolding code.routine tablesOf
 count-spec 𝓤 H 𝓜 𝓖 𝓡 =
     entered 𝓤 H (tripleOf 𝓤 H (𝓖 .A) count.signature (count.spec 𝓤 H (𝓖 .A) (𝓜 .mem) (𝓡 .run)))
-    (tables 𝓤 H 𝓜 𝓡 code.env .C) (tables 𝓤 H 𝓜 𝓡 code.env .Λ) #reader·count code.function (code.unfolded 𝓤 H 𝓜 𝓡)
+    (tables 𝓤 H 𝓜 𝓡 code.env .C) (tables 𝓤 H 𝓜 𝓡 code.env .Λ) #loss-reader·count code.function (code.unfolded 𝓤 H 𝓜 𝓡)
     (count-meets 𝓤 H (𝓖 .A) (givenOf 𝓤 H 𝓜 𝓖) (𝓜 .mem) (𝓡 .run) (tablesOf 𝓤 H 𝓜 (tables 𝓤 H 𝓜 𝓡 code.env))
-    (cited 𝓤 H (New 𝓤 H (𝓖 .A) (𝓜 .mem) (𝓡 .run)) 𝓜 𝓡 code.env #reader·new new-def.routine code.calls-reader·LossReader·new (new-thm.met 𝓤 H 𝓜 𝓖 𝓡))
-    (cited 𝓤 H (Next 𝓤 H (𝓖 .A) (𝓜 .mem) (𝓡 .run)) 𝓜 𝓡 code.env #reader·next next-def.routine code.calls-reader·LossReader·next (next-thm.met 𝓤 H 𝓜 𝓖 𝓡))
-    (cited 𝓤 H (Width 𝓤 H (𝓖 .A) (𝓜 .mem) (𝓡 .run)) 𝓜 𝓡 code.env #words·width width-def.routine code.calls-words·Step·width (width-thm.met 𝓤 H 𝓜 𝓖 𝓡)))
+    (cited 𝓤 H (New 𝓤 H (𝓖 .A) (𝓜 .mem) (𝓡 .run)) 𝓜 𝓡 code.env #loss-reader·new new-def.routine code.calls-loss-reader·LossReader·new (new-thm.met 𝓤 H 𝓜 𝓖 𝓡))
+    (cited 𝓤 H (Next 𝓤 H (𝓖 .A) (𝓜 .mem) (𝓡 .run)) 𝓜 𝓡 code.env #loss-reader·next next-def.routine code.calls-loss-reader·LossReader·next (next-thm.met 𝓤 H 𝓜 𝓖 𝓡))
+    (cited 𝓤 H (Width 𝓤 H (𝓖 .A) (𝓜 .mem) (𝓡 .run)) 𝓜 𝓡 code.env #loss-words·width width-def.routine code.calls-loss-words·Step·width (width-thm.met 𝓤 H 𝓜 𝓖 𝓡)))

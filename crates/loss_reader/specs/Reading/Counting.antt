@@ -1,9 +1,11 @@
 -- Counting the items that a reader passes. Document 01, "Loss words": "Room needed: three per item."
---   counts-items       the count of a well-formed report is the number of its items
---   Turn s             a turn of the count: `left` readings are enough, n items are passed, and those to come make up the whole count
---   turn-first, turn-on, turn-on-less, turn-ends   where it begins, where it goes on past an item, that fewer are left then, and where none stands
+--   counts-items             the count of a well-formed report is the number of its items
+--   Turn s, standing         a turn of the count: n items are passed, `left` readings suffice for the rest; its reader
+--   turn-first, turn-on, turn-on-less, turn-ends
+--                            the first turn, the next one after an item, with fewer readings left, and the last, where
+--                            there is no item
 --   turn-within, turn-fits   the count, and the next one, are at most the number of words
--- Assumes nothing.
+--   some-left, counts-on     at an item, a reading is left and the count is one more than the rest
 use mathlib.Core.Path.{_≡_, refl, sym, ap, _∙_}
 use mathlib.Core.List.{List}
 use Prim.Native.Nat.{ℕ, zero, suc, _+_, _-_, _≤_, _<_}

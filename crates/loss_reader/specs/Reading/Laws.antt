@@ -1,10 +1,10 @@
--- Reading from one place to the next gives the items of the rules' `parse` in their order. Document 01: "The decompressed loss iterator becomes
--- a reader that holds the lent words and its place."
---   moved-fits     the place after a reading is below a bound where the place and the number of words are
---   moved-none     where no item stands, the reader stays as it was
---   reads-parse    readings enough for the words that are left give the parse of those words
---   reads-all      from the first word: the parse of the whole report; reads-words   the rules' `wordsOf` of at most 512 words
--- Assumes nothing.
+-- Reading from one place to the next gives the items of `parse` of the rules, in order. Document 01: "The decompressed
+-- loss iterator becomes a reader that holds the lent words and its place."
+--   moved-fits    the place after a reading is below any bound on the place before it and the number of words
+--   moved-none    where there is no item, the reader stays
+--   reads-parse   enough readings for the words left give the parse of those words
+--   reads-all     from the first word, they give the parse of the whole report
+--   reads-words   and, for at most 512 words, `wordsOf` of the rules
 use mathlib.Core.Path.{_≡_, refl, sym, ap, _∙_}
 use mathlib.Core.Bool.{Bool, true, false, cond}
 use mathlib.Core.List.{List, [], _∷_}
@@ -21,7 +21,7 @@ use Rattle.loss_words.specs.declared.Step.the-variants.{One, Range, Bad, End}
 use Rattle.loss_reader.specs.declared.LossReader.{LossReader}
 use Rattle.loss_reader.specs.Reading.{start, here, moved, given, reads}
 
--- ## Where a reader stands after a reading
+-- ## The place after a reading
 
 below : (ws : List ℕ) (at n m : ℕ) → at < m → length ws < m → widthOf (stepAt ws at) ≡ n → at + n < m
 below ws at zero m h k e = omega arith

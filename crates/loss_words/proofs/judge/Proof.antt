@@ -1,5 +1,5 @@
--- `loss_words::judge` meets its contract. At each turn the items passed, and what the rules read from there on, make up the whole report (`Read`).
--- Assumes nothing.
+-- `loss_words::judge` meets its contract. At each turn, the items passed and what the rules read from there on make up
+-- the whole report (`Read`).
 use native.Mathlib.Omega.{arith}
 use mathlib.Core.Path.{_≡_, sym, ap, _∙_}
 use Prim.Native.Nat.{_+_, _-_, _≤_}

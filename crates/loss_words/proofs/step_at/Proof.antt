@@ -1,5 +1,4 @@
--- `loss_words::step_at` meets its contract: each way through its tests is one law of `Words.Laws`.
--- Assumes nothing.
+-- `loss_words::step_at` meets its contract: each path through its tests is one law of `Words.Laws`.
 use native.Mathlib.Omega.{arith}
 use mathlib.Core.Path.{sym}
 use Prim.Native.Nat.{_<_, _^_}

@@ -1,11 +1,10 @@
--- The numbers that enter the loss list may be taken from the answer's runs: those that are joined enter the same numbers as the runs of the
--- items one by one. Document 01, "Loss words": "Added numbers enter the list once."
---   Inside s rs              every run begins with a number, and one that is Added ends at next unsent at the latest
---   runs-inside, joined-inside   the runs of a report's items do, and do when they are joined
---   entered-sum              the numbers of a run enter in two parts
---   enterAll-joined          the joined runs enter what the runs enter
---   count-is                 how many numbers a run has, by its two ends
--- Assumes nothing.
+-- The numbers that enter the loss list can be taken from the runs of the answer: joined runs enter the same numbers as
+-- the runs of the items one by one. Document 01, "Loss words": "Added numbers enter the list once."
+--   Inside s rs                  every run begins with a sequence number, and Added runs don't pass next unsent
+--   runs-inside, joined-inside   this holds of the runs of a report, and of the joined ones
+--   entered-sum                  the numbers of a run can enter in two parts
+--   enterAll-joined              the joined runs enter what the runs enter
+--   count-is                     how many numbers a run has, from its two ends
 use mathlib.Core.Path.{_≡_, refl, sym, ap, _∙_}
 use mathlib.Core.Bool.{Bool, true, false, cond, and-eq-true-iff}
 use mathlib.Core.List.{List, [], _∷_, _++_}
@@ -13,10 +12,11 @@ use Prim.Native.Nat.{ℕ, zero, suc, _+_, _-_, _^_, _≤_, _<_, min}
 use native.Mathlib.Omega.{arith}
 use lib.Dec.{ltb, eqb}
 use borrow.Author.Tests.{ltb-true, eqb-true}
-use Rattle.numbers.specs.Modular.{seqs, dist}
-use Rattle.numbers.specs.Modular.Laws.{plus-is, dist-plus}
+use Rattle.rules_theorems.proofs.Entering.{reach-added}
+use Rattle.rules_numbers.specs.Modular.{seqs, dist}
+use Rattle.rules_numbers.specs.Modular.Laws.{plus-is, dist-plus}
 use Rattle.rules.specs.Numbers.{wire, distance}
-use Rattle.rules.specs.Numbers.Laws.{wire-below}
+use Rattle.rules_theorems.specs.Laws.Numbers.{wire-below}
 use Rattle.rules.specs.Sender.{Sender, sentOf, insert}
 use Rattle.rules.specs.Losses.{Item, LossKind, Added, Ignored, Dropped, LossRun, kindBy, kindOf, reachBy, reach, stretch, itemRuns, runsOf, endOf, sameKind, meets, glue, joined, entered, enterBy, enterAll}
 use Rattle.loss_words.specs.Runs.{merged}
@@ -31,19 +31,6 @@ Inside s (r ∷ rs) = (r .first < 2 ^ 31) × (r .kind ≡ Added → distance (wi
 inside-append : (s : Sender) (rs qs : List LossRun) → Inside s rs → Inside s qs → Inside s (rs ++ qs)
 inside-append s [] qs a b = b
 inside-append s (r ∷ rs) qs a b = (a .0, a .1, inside-append s rs qs (a .2) b)
-
-added-near : (a b : Bool) → kindBy a b ≡ Added → a ≡ true
-unfolding kindBy
-added-near true b e = refl
-added-near false true e = cc
-added-near false false e = cc
-
-reach-added : (s : Sender) (m n : ℕ) → kindOf s m ≡ Added → distance (wire (s .front)) m + min n (reach s m) ≤ sentOf s
-unfolding kindOf reach reachBy
-reach-added s m n e =
-    let near : distance (wire (s .front)) m < sentOf s = ltb-true _ _ (added-near (ltb (distance (wire (s .front)) m) (sentOf s)) _ e) in
-    let is : reach s m ≡ sentOf s - distance (wire (s .front)) m = ap (reachBy s m) e in
-    omega arith
 
 stretch-inside : (s : Sender) (i m k : ℕ) → m < 2 ^ 31 → Inside s (stretch s i m k)
 unfolding stretch
@@ -70,7 +57,7 @@ entered-sum n (suc j) k xs =
     let b : suc n + j ≡ n + suc j = omega arith in
     rw a (entered-sum (suc n) j k (insert n xs) ∙ ap (λ (m : ℕ). entered m k (entered (suc n) j (insert n xs))) b)
 
--- where a number lies that is k further than one near the front
+-- the distance from the front of a number k further
 further : (a m k : ℕ) → m < 2 ^ 31 → distance (wire a) m + k < 2 ^ 31 → distance (wire a) (wire (m + k)) ≡ distance (wire a) m + k
 unfolding distance
 further a m k h l = omega arith

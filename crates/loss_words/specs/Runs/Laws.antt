@@ -1,12 +1,13 @@
--- The runs as the rules have them.
---   Sends s f n              f is the front of the sender s, and n of its packets are sent
---   Reaches, reaches-added, reaches-ignored, reaches-dropped   kind and reach of a number, by the tests that the code makes
+-- The runs agree with the rules.
+--   Sends s f n                          f is the front of the sender s, and n of its packets are sent
+--   Reaches, reaches-added, reaches-ignored, reaches-dropped   kind and reach of a number, from the code's tests
 --   kindAt-is, stretchAt-is, runsAt-is   kinds and runs are those of the rules
---   Numbers is               every end of an item is a number; words-numbers   those of a report's items are
---   answer-is                the answer that is written is that of the rules
---   sameKind-true, end-merged   what two runs that are one have in common
---   addAll-joined, addAll-append   runs added one by one, each at the end, are the joined ones; and may be added in two parts
--- Assumes nothing.
+--   Numbers is                           every end of an item is a sequence number
+--   words-numbers                        this holds of a report's items
+--   answer-is                            the answer that is written is that of the rules
+--   sameKind-true, end-merged            two runs of the same kind; the end of two joined runs
+--   addAll-joined, addAll-append         runs added one by one at the end are the joined ones; they can be added in two
+--                                        parts
 use mathlib.Core.Path.{_≡_, refl, sym, ap, _∙_}
 use mathlib.Core.Bool.{Bool, true, false, _&&_, cond, and-eq-true-iff}
 use mathlib.Core.List.{List, [], _∷_, _++_, append-nil}
@@ -17,10 +18,10 @@ use native.Mathlib.Omega.{arith}
 use lib.Dec.{ltb, eqb}
 use lib.ListN.{length, getD}
 use borrow.Author.Tests.{eqb-true, ltb-true, lt-ltb, le-ltb}
-use Rattle.numbers.specs.Modular.{seqs, plus, dist}
-use Rattle.numbers.specs.Modular.Laws.{plus-is}
+use Rattle.rules_numbers.specs.Modular.{seqs, plus, dist}
+use Rattle.rules_numbers.specs.Modular.Laws.{plus-is}
 use Rattle.rules.specs.Numbers.{wire, distance}
-use Rattle.rules.specs.Numbers.Laws.{wire-below, distance-is-dist}
+use Rattle.rules_theorems.specs.Laws.Numbers.{wire-below, distance-is-dist}
 use Rattle.rules.specs.Sender.{Sender, sentOf}
 use Rattle.rules.specs.Losses as rules
 use Rattle.rules.specs.Losses.{Item, Words, items, itemsOf, bad, before, isRange, parse, wordsOf, LossKind, Added, Ignored, Dropped, LossRun, kindBy, kindOf, reach, stretch, itemRuns, runsOf, endOf, sameKind, meets, glue, joined}
@@ -151,7 +152,7 @@ sameKind-true Dropped Added e = cc
 sameKind-true Dropped Ignored e = cc
 sameKind-true Dropped Dropped e = refl
 
--- a run that goes on into x ends where x ends
+-- a run that continues into x ends where x ends
 pub end-merged : (r x : LossRun) → meets r x ≡ true → endOf (merged r x) ≡ endOf x
 end-merged r x e =
     let at : endOf r ≡ x .first = eqb-true (endOf r) (x .first) (and-eq-true-iff (sameKind (r .kind) (x .kind)) (eqb (endOf r) (x .first)) .0 e .1) in

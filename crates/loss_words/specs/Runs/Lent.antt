@@ -1,10 +1,11 @@
--- Runs in the first words of a lent list, and what a run more makes of it.
---   Holds len rs e l        the list l is e with the len runs rs in its first words
---   goesOn l len kind first whether the last run in l goes on into one of that kind and first number
---   Pushed, Written, Accepted   what the functions that write the answer give and ask
---   holds-none, holds-room, words-length   no runs; where there is room for one more; how many words they take
---   pushed-on, pushed-new, push-on, push-new   a run more, where the last one goes on into it, and where not; as the code stores it
--- Assumes nothing.
+-- Runs in the first words of a lent list, and the list with one more run.
+--   Holds len rs e l            the list l is e with the len runs rs in its first words
+--   goesOn l len kind first whether the last run in l continues into one of that kind and first number
+--   Pushed, Written, Accepted   what the functions that write the answer guarantee and require
+--   holds-none, holds-room, words-length   no runs; room for one more; how many words they take
+--   Last                        the last run, and the runs before it
+--   pushed-on, pushed-new, push-on, push-new   one more run, joined to the last or not; as the code stores it
+--   goes-on-some                a run that is continued is there
 use mathlib.Core.Path.{_≡_, refl, sym, ap, _∙_}
 use mathlib.Core.Bool.{Bool, true, false, _&&_, cond}
 use mathlib.Core.List.{List, [], _∷_, _++_, append-assoc}
@@ -27,20 +28,20 @@ pub record Holds (len : ℕ) (rs : List LossRun) (e l : List ℕ) : Type 0 where
 abbrev pub goesOn : List ℕ → ℕ → ℕ → ℕ → Bool
 goesOn l len kind first = cond (ltb len 1) false (eqb (getD l (3 * len - 3) 0) kind && eqb (getD l (3 * len - 1) 0) first)
 
--- the list l with len runs becomes l′ with r runs: one run more, given by its words
+-- the list l with len runs becomes l′ with r runs: one more run, given by its words
 pub record Pushed (len kind first end : ℕ) (l : List ℕ) (r : ℕ) (l′ : List ℕ) : Type 0 where
   pub few : r ≤ len + 1
   pub same : length l′ ≡ length l
   pub holds : (rs : List LossRun) (e : List ℕ) (q : LossRun) → Holds len rs e l → kind ≡ codeOf (q .kind) → first ≡ q .first → end ≡ endOf q
       → Holds r (add rs q) e l′
 
--- .. and the runs qs more, three at most
+-- .. with the runs qs added, at most three
 pub record Written (len : ℕ) (qs : List LossRun) (l : List ℕ) (r : ℕ) (l′ : List ℕ) : Type 0 where
   pub few : r ≤ len + 3
   pub same : length l′ ≡ length l
   pub holds : (rs : List LossRun) (e : List ℕ) → Holds len rs e l → Holds r (addAll rs qs) e l′
 
--- "Room needed: three per item": the words ws are well-formed, and the list l has three runs of three words for each item
+-- "Room needed: three per item": the words ws are well-formed, and the list l has room for three runs per item
 pub record Accepted (ws l : List ℕ) : Type 0 where
   pub fine : wordsOf ws ≡ items (itemsOf (wordsOf ws))
   pub room : 9 * length (itemsOf (wordsOf ws)) ≤ length l
@@ -101,7 +102,7 @@ add-last (y ∷ z ∷ xs) x q = ap (λ (l : List LossRun). y ∷ l) (add-last (z
 
 -- ## Where the list has a last run
 
--- what stands behind the runs
+-- what comes after the runs
 abbrev rest : List LossRun → LossRun → List ℕ → List ℕ
 rest xs x e = drop (length (wordsFor (xs ++ (x ∷ [])))) e
 
@@ -145,7 +146,7 @@ module _ (xs : List LossRun) (x : LossRun) (e : List ℕ) (len : ℕ) (l : List 
         ∙ sym (laid xs (merged x q) e));
   }
 
--- ## A run more
+-- ## One more run
 
 pub pushed-on : (len : ℕ) (rs : List LossRun) (e l : List ℕ) (q : LossRun) → Holds len rs e l → goesOn l len (codeOf (q .kind)) (q .first) ≡ true
     → Holds len (add rs q) e (set l (3 * len - 1) (endOf q))
@@ -160,7 +161,7 @@ pushed-on len (r ∷ rs) e l q H t =
     let is : add (r ∷ rs) q ≡ L .init ++ (merged (L .last) q ∷ []) = rw (L .is) (add-last (L .init) (L .last) q ∙ rw m) in
     rw is (extended (L .init) (L .last) e len l H′ q m)
 
--- where the last run does not go on, the new one stands behind it
+-- if the last run doesn't continue, the new one comes after it
 apart : (len : ℕ) (rs : List LossRun) (e l : List ℕ) (q : LossRun) → Holds len rs e l → goesOn l len (codeOf (q .kind)) (q .first) ≡ false → add rs q ≡ rs ++ (q ∷ [])
 unfolding add
 apart len [] e l q H t = refl

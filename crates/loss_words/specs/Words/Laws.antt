@@ -1,9 +1,10 @@
--- What the code uses of a report's words, and how the rules' `parse` goes on from one item to the next.
---   step-end, step-one, step-alone, step-high, step-far, step-range   what stands at an index, by the tests that the code makes
---   parse-none, parse-some   the rules' parse where no item stands, and where one does
---   judgedFrom n w           `judged` with n items passed; judged-before   an item more; judged-none   none passed
---   Read ws at n             at index `at` n items are passed: the invariant of `judge`
--- Assumes nothing.
+-- What the code uses of a report's words, and how `parse` of the rules goes from one item to the next.
+--   step-end, step-one, step-alone, step-high, step-far, step-range   what is at an index, from the code's tests
+--   parse-none, parse-some   the parse where there is no item, and where there is one
+--   judgedFrom n w           `judged` after n items
+--   Read ws at n             n items come before index `at`: the invariant of `judge`
+--   read-none, read-on, read-bad, read-all   at the start, after an item, at a bad one, at the end
+--   words-many, words-few    over 512 words, and up to 512
 use mathlib.Core.Path.{_≡_, refl, sym, ap, _∙_}
 use mathlib.Core.Bool.{Bool, true, false, cond}
 use mathlib.Core.List.{List, [], _∷_}
@@ -14,15 +15,15 @@ use lib.Dec.{ltb}
 use lib.ListN.{length, drop, getD, drop-of-length-le, length-drop}
 use lib.Seq.{drop-cons, drop-drop}
 use borrow.Author.Tests.{lt-ltb, le-ltb}
-use Rattle.numbers.specs.Modular.{seqs, dist}
-use Rattle.rules.specs.Numbers.Laws.{distance-is-dist}
+use Rattle.rules_numbers.specs.Modular.{seqs, dist}
+use Rattle.rules_theorems.specs.Laws.Numbers.{distance-is-dist}
 use Rattle.rules.specs.Losses.{Item, Words, items, bad, before, isRange, parse, wordsOf}
 use Rattle.loss_words.specs.declared.Step.the-variants.{One, Range, Bad, End}
 use Rattle.loss_words.specs.declared.Report.{Report}
 use Rattle.loss_words.specs.declared.Report.the-variants.{Items, BadNak}
 use Rattle.loss_words.specs.Words.{step, stepAt, widthOf, itemOf, judged}
 
--- ## What stands at an index
+-- ## What is at an index
 
 module _ (ws : List ℕ) (at : ℕ) where
   pub step-end : length ws ≤ at → stepAt ws at ≡ End

@@ -1,6 +1,5 @@
 -- `octets::copy_in` meets its contract. The loop's invariant: the first i bytes lie at `at`, and `dst` is as long as it was. A turn's store is
 -- `lib.Seq`'s `paste-suc`; the measure is what is left to copy.
--- Assumes nothing.
 use mathlib.Core.Path.{_≡_, refl}
 use Prim.Native.Nat.{_-_, _≤_}
 use native.Mathlib.Omega.{arith}

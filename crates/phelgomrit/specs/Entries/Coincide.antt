@@ -1,16 +1,16 @@
--- Document 01, "What contracts decide": "any two it admits are shown to coincide", for each of the eighteen host entries. Each contract is an
--- equation with one of the definitions below; x and y are two outcomes, the answer with every lent element at exit, that it admits.
--- Assumes nothing.
+-- Document 01, "What contracts decide": "any two it admits are shown to coincide", for each of the eighteen host
+-- entries. Each contract equates the outcome, the answer with every lent element at exit, to one of the definitions
+-- below; x and y are two outcomes that it admits.
 use mathlib.Core.Path.{_≡_, sym, _∙_}
 use mathlib.Core.Bool.{Bool}
 use mathlib.Core.List.{List}
 use Prim.Native.Nat.{ℕ}
-use Rattle.encapsulate.specs.Header.{header}
-use Rattle.rtt.specs.declared.Rtt.{Rtt}
-use Rattle.timers.specs.declared.Timers.{Timers}
-use Rattle.timers.specs.Timers as T
-use Rattle.timer_checks.specs.Wake.{nextTimer}
-use Rattle.timer_checks.specs.Checks.{checkSnd, checkFullAck, checkNak, checkStatistics, checkPeerIdleTimeout}
+use Rattle.rules_packets.specs.Header.{header}
+use Rattle.rules_numbers.specs.declared.Rtt.{Rtt}
+use Rattle.rules_timers.specs.declared.Timers.{Timers}
+use Rattle.rules_timers.specs.Timers as T
+use Rattle.rules_timers.specs.Wake.{nextTimer}
+use Rattle.rules_timers.specs.Checks.{checkSnd, checkFullAck, checkNak, checkStatistics, checkPeerIdleTimeout}
 use Rattle.host_timers.specs.declared.TimersAnswer.{TimersAnswer}
 use Rattle.host_timers.specs.declared.NanosecondsAnswer.{NanosecondsAnswer}
 use Rattle.host_timers.specs.TimersAnswers.{nanoseconds, blanks, timersSet, timersChecked, nextMessage}
@@ -26,7 +26,7 @@ use Rattle.host_structs.specs.Replies.{newOf, payloadOf, reportsOf, fullOf, rtt
 use Rattle.phelgomrit.specs.Entries.{Messaged, message, ack, Reported, nak, Ran, run, payload, reports}
 use Rattle.phelgomrit.specs.Packet.{placeOf}
 
--- x and y coincide, where both are z
+-- x and y coincide if both are z
 abbrev Coincide : {A : Type 0} → A → Type 0
 Coincide {A} z = (x y : A) → x ≡ z → y ≡ z → x ≡ y
 

@@ -1,13 +1,14 @@
--- Host entries, one after the other, are the public calls, one after the other: what `promises` says of these holds of the host's numbers.
---   Hub, worldOf       what a host keeps and lends; the sender and areas that it stands for
---   enter, enters      what an entry leaves; what any entries leave, refused ones included
---   entered-is, all-entered   they leave what the public calls leave (`promises:Promises`), so `promises:Promises/Always` holds of them
---   new-started        what the entry of a new sender gives, in lent areas, is the fresh sender of `promises`
---   host-always        so after any entries from there the host's numbers and areas stand for the rules' sender after the same calls
---   host-answers       and the next call answers as the rules do, with every word of its lent list
---   refused-enters     "A refusal changes nothing lent or kept": every number that the host keeps, every word of the areas and of the store; 11 apart
---   refused-lists      and every element of the lent list
--- Assumes nothing.
+-- Host entries, one after the other, are the public calls, one after the other: what the crate promises says of the
+-- calls holds of the host's numbers.
+--   Hub, worldOf              what a host keeps and lends; the sender and areas it represents
+--   enter, enters             the hub after an entry, and after a list of entries, refused ones included
+--   entered-is, all-entered   they leave what the public calls leave, so Promises/Always of promises holds of them
+--   newHub, new-started       the hub with a new sender; it is the fresh sender of promises
+--   host-always               after any entries from there, it represents the sender of the rules after the same calls
+--   host-answers              and the next call answers as the rules do, with every word of its lent list
+--   refused-enters            "A refusal changes nothing lent or kept": no number that the host keeps, no word of the
+--                             areas or of the store, except by 11
+--   refused-lists             and no element of the lent list
 use mathlib.Core.Path.{_≡_, refl, sym, ap, _∙_, subst}
 use mathlib.Core.Bool.{Bool}
 use mathlib.Core.List.{List, [], _∷_, map}
@@ -15,11 +16,11 @@ use Prim.Native.Nat.{ℕ, _*_, _≤_}
 use lib.Dec.{eqb}
 use lib.ListN.{length}
 use borrow.Author.Tests.{eqb-false, ne-eqb}
-use Rattle.refusals.specs.Choice.{cond-by}
-use Rattle.refusals.specs.Table.{numberOf}
-use Rattle.refusals.specs.declared.Refusal.{Refusal}
-use Rattle.refusals.specs.declared.Verdict.the-variants.{Accepted, Refused}
-use Rattle.pacing.specs.declared.options.LiveBandwidthMode.{LiveBandwidthMode}
+use Rattle.laws.specs.Choice.{cond-by}
+use Rattle.rules_refusals.specs.Table.{numberOf}
+use Rattle.rules_refusals.specs.declared.Refusal.{Refusal}
+use Rattle.rules_refusals.specs.declared.Verdict.the-variants.{Accepted, Refused}
+use Rattle.rules_pacing.specs.declared.LiveBandwidthMode.{LiveBandwidthMode}
 use Rattle.rules.specs.Settings.{capacity, storeSize}
 use Rattle.rules.specs.Sender.{fresh}
 use Rattle.rules.specs.Refusals.{newVerdict}
@@ -40,14 +41,14 @@ use Rattle.sender.specs.Calls.{made}
 use Rattle.sender.specs.Calls.Stands as Message
 use Rattle.sender.specs.Acks as Acks
 use Rattle.sender.specs.Acks.Stands as Ack
-use Rattle.answers.specs.declared.Reported as reports
-use Rattle.answers.specs.declared.Reported.the-variants as reported
-use Rattle.answers.specs.Naks as Naks
-use Rattle.answers.specs.Naks.Stands as Nak
-use Rattle.sender_run.specs.declared.Ran as sender-run
-use Rattle.sender_run.specs.declared.Ran.the-variants as ran
-use Rattle.sender_run.specs.Runs as Runs
-use Rattle.sender_run.specs.Runs.Stands as Run
+use Rattle.nak.specs.declared.Reported as reports
+use Rattle.nak.specs.declared.Reported.the-variants as reported
+use Rattle.nak.specs.Naks as Naks
+use Rattle.nak.specs.Naks.Stands as Nak
+use Rattle.run.specs.declared.Ran as sender-run
+use Rattle.run.specs.declared.Ran.the-variants as ran
+use Rattle.run.specs.Runs as Runs
+use Rattle.run.specs.Runs.Stands as Run
 use Rattle.host_structs.specs.declared.senders.FlatSender.{FlatSender}
 use Rattle.host_structs.specs.Senders.{senderOf, flatFrom}
 use Rattle.host_structs.specs.Senders.Laws.{read-back}
@@ -146,7 +147,7 @@ module _ (c : Settings) (mode : LiveBandwidthMode) (ring lost store : List ℕ) 
         subst (λ (w : World). Stood (settingsOf c) w (rules.calls (settingsOf c) (map ruleOf ks) (fresh (settingsOf c) mode)))
         (sym (all-entered ks newHub ∙ ap (worlds ks) new-started)) (always c mode ring lost store accepted entries losses payloads ks f)
 
-    -- and the next call, whose answer the entry writes as numbers, answers as the rules do
+    -- and the next call, whose answer the entry returns as numbers, answers as the rules do
     pub host-answers : (ks : List Call) → AllFit ks → (k : Call) → Fits k
         → Same (rules.calls (settingsOf c) (map ruleOf ks) (fresh (settingsOf c) mode)) k (worldOf (enters ks newHub))
         (rules.answer (settingsOf c) (ruleOf k) (rules.calls (settingsOf c) (map ruleOf ks) (fresh (settingsOf c) mode)))
@@ -157,7 +158,7 @@ module _ (c : Settings) (mode : LiveBandwidthMode) (ring lost store : List ℕ) 
 
 -- ## A refused entry
 
--- what is kept, beside the areas of a world
+-- what is kept, with the areas of a world
 abbrev hub : FlatSender → World → Hub
 hub f w = record { kept = f; ring = w .books .ring; lost = w .books .lost; store = w .store }
 

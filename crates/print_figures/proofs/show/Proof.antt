@@ -1,4 +1,4 @@
--- `print_figures::show` meets its contract: no index leaves the sixteen bytes. Assumes nothing.
+-- `print_figures::show` meets its contract: every index is within the sixteen bytes.
 use Prim.Native.Nat.{_-_, _≤_}
 use borrow.Author.Needs.{needs}
 use Rattle.print_figures.proofs.show.Statement.{statement}

@@ -1,45 +1,45 @@
--- After any public calls from a fresh sender, refused ones included: the answers are those of the rules, the books stand for the rules' sender, and
--- what the rules promise holds of it.
---   Stood c w s          the world w stands for the sender s of the rules, which keeps the book rules
+-- After any public calls from a fresh sender, refused ones included: the answers are those of the rules, the books
+-- represent the sender of the rules, and what the rules promise holds of it.
+--   Stood c w s                        the world w represents the sender s of the rules, which keeps the book rules
 --   one-answer, one-world, one-store   a call in such a world answers as the rules do, and leaves such a world
---   always, stores, answers   after any calls: the books, the store, and the answer of the next one
---   reports-told         the reports are those of the rules' sender
---   books-stay           the books are kept: no call answers 3
---   demand-three         demand 3, whole, of the sender that the books stand for
--- Assumes nothing.
+--   senderOf ks                        the sender of the rules after the calls ks
+--   always, stores, answers            after any calls: the books, the store, and the next call's answer
+--   reports-told                       the reports are those of the sender of the rules
+--   books-stay                         the books keep the rules, so no call answers 3
+--   demand-three                       demand 3 as a whole, of the sender that the books represent
 use mathlib.Core.Path.{_≡_, refl, sym, ap, _∙_, subst}
 use mathlib.Core.Bool.{true}
 use mathlib.Core.List.{List, [], _∷_, map}
 use Prim.Native.Nat.{ℕ, _*_, _≤_}
 use lib.ListN.{length}
-use Rattle.refusals.specs.declared.Verdict.the-variants.{Accepted, Refused}
-use Rattle.pacing.specs.declared.options.LiveBandwidthMode.{LiveBandwidthMode}
+use Rattle.rules_refusals.specs.declared.Verdict.the-variants.{Accepted, Refused}
+use Rattle.rules_pacing.specs.declared.LiveBandwidthMode.{LiveBandwidthMode}
 use Rattle.rules.specs.Settings.{Settings, capacity, storeSize}
 use Rattle.rules.specs.Sender.{Sender, fresh}
-use Rattle.rules.specs.Books.Laws.{Kept, kept-facts}
+use Rattle.rules_theorems.specs.Laws.BookRules.{Kept, kept-facts}
 use Rattle.rules.specs.Calls as rules
 use Rattle.rules.specs.Refusals.{newVerdict}
 use Rattle.rules.specs.Reports.{isFlushed, hasPacketsToSend, bufferedPackets, bufferedBytes, bufferedTime}
-use Rattle.rules_theorems.specs.Promises.{Given, AllGiven, DemandThree}
+use Rattle.rules_theorems.specs.Demands.{Given, AllGiven, DemandThree}
 use Rattle.rules.specs.Message.{stored}
 use Rattle.rules_theorems.proofs.CallsKept.{answer-kept}
 use Rattle.rules_theorems.proofs.Store.{written-length}
 use Rattle.rules_theorems.proofs.Theorems as theorems
 use Rattle.rules_theorems.proofs.Theorems.{books-kept}
-use Rattle.encapsulate.specs.Split.{count}
-use Rattle.refusals.specs.declared.Verdict.{Verdict}
+use Rattle.rules_packets.specs.Split.{count}
+use Rattle.rules_refusals.specs.declared.Verdict.{Verdict}
 use Rattle.buffer.specs.declared.Settings as code
 use Rattle.buffer.specs.State.{settingsOf}
-use Rattle.sender.specs.Books.{books, rulesOf, kept}
-use Rattle.sender.specs.Books.Stands.{StandsFor, kept-is}
+use Rattle.sender.specs.SenderAndAreas.{books, rulesOf, kept}
+use Rattle.sender.specs.SenderAndAreas.Stands.{StandsFor, kept-is}
 use Rattle.sender.specs.Calls.Stands as Message
 use Rattle.sender.specs.Acks.Stands as Ack
-use Rattle.answers.specs.Naks.Stands as Nak
-use Rattle.answers.specs.declared.Told.the-variants.{Known}
-use Rattle.answers.specs.Payload.Stands as Payload
-use Rattle.answers.specs.Reports.{reports}
-use Rattle.answers.specs.Reports.Stands.{reports-are}
-use Rattle.sender_run.specs.Runs.Stands as Run
+use Rattle.nak.specs.Naks.Stands as Nak
+use Rattle.reports.specs.declared.Told.the-variants.{Known}
+use Rattle.payload.specs.Payload.Stands as Payload
+use Rattle.reports.specs.Reports.{reports}
+use Rattle.reports.specs.Reports.Stands.{reports-refines}
+use Rattle.run.specs.Runs.Stands as Run
 use Rattle.buffer_ack.specs.declared.FullAck.the-variants as full
 use Rattle.promises.specs.Promises.{World, Call, message, ack, nak, run, payload, ruleOf, Fits, AllFit, after, worlds, Same, started}
 
@@ -65,11 +65,11 @@ module _ {c : Settings} {w : World} {s : Sender} (S : Stood c w s) where
   long = rw (S .settings) (S .room)
 
   pub one-answer : (k : Call) → Fits k → Same s k w (rules.answer (rulesOf (w .books)) (ruleOf k) s)
-  one-answer (message time now bytes) f = Message.message-is (w .books) s (S .stands) K time now bytes (w .store) long
-  one-answer (ack n full rtt) f = Ack.ack-is (w .books) s (S .stands) K n full rtt
-  one-answer (nak words list) f = Nak.nak-is (w .books) s (S .stands) K words list f
-  one-answer (run now p draining list) f = Run.run-is (w .books) s (S .stands) K now p draining list
-  one-answer (payload n) f = Payload.payload-is (w .books) s (S .stands) K n (w .store) long
+  one-answer (message time now bytes) f = Message.message-refines (w .books) s (S .stands) K time now bytes (w .store) long
+  one-answer (ack n full rtt) f = Ack.ack-refines (w .books) s (S .stands) K n full rtt
+  one-answer (nak words list) f = Nak.nak-refines (w .books) s (S .stands) K words list f
+  one-answer (run now p draining list) f = Run.run-refines (w .books) s (S .stands) K now p draining list
+  one-answer (payload n) f = Payload.payload-refines (w .books) s (S .stands) K n (w .store) long
 
 -- the store keeps its length
 module _ (c : Settings) (s : Sender) (time now : ℕ) (bytes store : List ℕ) (room : storeSize c ≤ length store) where
@@ -91,7 +91,7 @@ module _ {c : Settings} {w : World} {s : Sender} (S : Stood c w s) where
   as-rules : (k : Call) → rules.answer d (ruleOf k) s ≡ rules.answer c (ruleOf k) s
   as-rules k = ap (λ (e : Settings). rules.answer e (ruleOf k) s) (S .settings)
 
-  -- what a call leaves, from what its answer says
+  -- the world after a call, from what its answer says
   stood : (k : Call) → Fits k → rulesOf (after k w .books) ≡ d → StandsFor (after k w .books) (rules.answer d (ruleOf k) s .after)
       → storeSize c ≤ length (after k w .store)
       → Stood c (after k w) (rules.answer c (ruleOf k) s .after)
@@ -102,7 +102,7 @@ module _ {c : Settings} {w : World} {s : Sender} (S : Stood c w s) where
     room = room;
   }
 
-  -- what a call leaves stands for what the rules leave
+  -- the world after a call represents the sender after it in the rules
   pub one-world : (k : Call) → Fits k → Stood c (after k w) (rules.answer c (ruleOf k) s .after)
   unfolding after
   one-world (message time now bytes) f =
@@ -119,7 +119,7 @@ module _ {c : Settings} {w : World} {s : Sender} (S : Stood c w s) where
       stood (run now p draining list) f (ap settingsOf (A .settings)) (A .stands) (S .room)
   one-world (payload n) f = stood (payload n) f refl (rw (one-answer S (payload n) f .same) (S .stands)) (S .room)
 
-  -- a call that writes nothing to the store where it is accepted
+  -- an accepted call that doesn't write to the store
   unwritten : (k : rules.Call) → rules.storeBy c Accepted k s (w .store) ≡ w .store → w .store ≡ rules.storeAfter c k s (w .store)
   unfolding rules.storeAfter rules.storeBy
   unwritten k e = go (rules.verdictOf c k s)
@@ -157,7 +157,7 @@ all-given : (ks : List Call) → AllFit ks → AllGiven (map ruleOf ks)
 all-given [] f = tt
 all-given (k ∷ ks) f = (given k (f .0), all-given ks (f .1))
 
--- A fresh sender that `new` gave, in areas as long as its capacity asks
+-- a fresh sender from `new`, in areas as long as its capacity requires
 module _ (b : code.Settings) (mode : LiveBandwidthMode) (ring lost store : List ℕ) (accepted : newVerdict (settingsOf b) mode ≡ Accepted)
     (entries : capacity (settingsOf b) * 6 ≤ length ring) (losses : capacity (settingsOf b) ≤ length lost) (payloads : storeSize (settingsOf b) ≤ length store) where
   abbrev c : Settings
@@ -175,12 +175,12 @@ module _ (b : code.Settings) (mode : LiveBandwidthMode) (ring lost store : List 
   senderOf ks = rules.calls c (map ruleOf ks) (fresh c mode)
 
   start-stood : Stood c start (fresh c mode)
-  start-stood = record { settings = refl; stands = Message.made-stands b mode ring lost (new-kept .fields .settings) entries losses; kept = new-kept; room = payloads }
+  start-stood = record { settings = refl; stands = Message.new-refines b mode ring lost (new-kept .fields .settings) entries losses; kept = new-kept; room = payloads }
 
   pub always : (ks : List Call) → AllFit ks → Stood c (worlds ks start) (senderOf ks)
   always ks f = from-here c ks start (fresh c mode) f start-stood
 
-  -- and the store holds, byte for byte, what it does in the rules
+  -- and the store is, byte for byte, that of the rules
   pub stores : (ks : List Call) → AllFit ks → worlds ks start .store ≡ rules.stores c (map ruleOf ks) (fresh c mode) store
   stores ks f = stores-here c ks start (fresh c mode) f start-stood
 
@@ -200,14 +200,14 @@ module _ (b : code.Settings) (mode : LiveBandwidthMode) (ring lost store : List 
   })
   reports-told ks f =
       let S = always ks f in
-      reports-are (worlds ks start .books) (senderOf ks) (S .stands) (subst (λ (d : Settings). Kept d (senderOf ks)) (sym (S .settings)) (S .kept))
+      reports-refines (worlds ks start .books) (senderOf ks) (S .stands) (subst (λ (d : Settings). Kept d (senderOf ks)) (sym (S .settings)) (S .kept))
 
-  -- the books are kept, so the next call does not answer 3
+  -- the books keep the rules, so the next call does not answer 3
   pub books-stay : (ks : List Call) → AllFit ks → kept (worlds ks start .books) ≡ true
   books-stay ks f =
       let S = always ks f in
       kept-is (worlds ks start .books) (senderOf ks) (S .stands) (subst (λ (d : Settings). Kept d (senderOf ks)) (sym (S .settings)) (S .kept))
 
-  -- demand 3, of the sender that the books stand for
+  -- demand 3, of the sender that the books represent
   pub demand-three : (ks : List Call) → AllFit ks → DemandThree c (senderOf ks)
   demand-three ks f = theorems.demand-three c mode (map ruleOf ks) accepted (all-given ks f)

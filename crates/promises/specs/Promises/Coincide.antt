@@ -1,29 +1,28 @@
--- Document 01, "What contracts decide": "Every public call has a contract that determines its answer and every lent byte afterwards ..; any two
--- it admits are shown to coincide". Each contract is an equation with one of the definitions below; x and y are two outcomes, the answer with
--- every lent area at exit, that it admits.
+-- Document 01, "What contracts decide": "Every public call has a contract that determines its answer and every lent
+-- byte afterwards ..; any two it admits are shown to coincide". Each contract equates the outcome, the answer with
+-- every lent area at exit, to one of the definitions below; x and y are two outcomes that it admits.
 --   new-coincide, message-coincide, ack-coincide, nak-coincide, run-coincide, payload-coincide, reports-coincide
--- Assumes nothing.
 use mathlib.Core.Path.{_≡_, sym, _∙_}
 use mathlib.Core.Bool.{Bool}
 use mathlib.Core.List.{List}
 use Prim.Native.Nat.{ℕ}
-use Rattle.pacing.specs.declared.options.LiveBandwidthMode.{LiveBandwidthMode}
+use Rattle.rules_pacing.specs.declared.LiveBandwidthMode.{LiveBandwidthMode}
 use Rattle.buffer.specs.declared.Settings.{Settings}
 use Rattle.buffer_ack.specs.declared.FullAck.{FullAck}
 use Rattle.buffer_ack.specs.declared.AckRtt.{AckRtt}
 use Rattle.sender.specs.declared.Made.{Made}
 use Rattle.sender.specs.declared.Acknowledged.{Acknowledged}
-use Rattle.sender.specs.Books.{Books}
+use Rattle.sender.specs.SenderAndAreas.{Books}
 use Rattle.sender.specs.Calls.{Messages, made, message}
 use Rattle.sender.specs.Acks.{ack}
-use Rattle.answers.specs.declared.Found.{Found}
-use Rattle.answers.specs.declared.Told.{Told}
-use Rattle.answers.specs.Naks.{Naks, nak}
-use Rattle.answers.specs.Payload.{payload}
-use Rattle.answers.specs.Reports.{reports}
-use Rattle.sender_run.specs.Runs.{Runs, run}
+use Rattle.payload.specs.declared.Found.{Found}
+use Rattle.reports.specs.declared.Told.{Told}
+use Rattle.nak.specs.Naks.{Naks, nak}
+use Rattle.payload.specs.Payload.{payload}
+use Rattle.reports.specs.Reports.{reports}
+use Rattle.run.specs.Runs.{Runs, run}
 
--- two that equal a third
+-- two values equal to a third
 both : {A : Type 0} (x y z : A) → x ≡ z → y ≡ z → x ≡ y
 both x y z p q = p ∙ sym q
 

@@ -1,9 +1,10 @@
--- "A refusal changes nothing": of any sender and areas at all, damaged ones too. Document 01: "All stays as before; 11 alone keeps a new RTT."
---   verdictIn k w        what a call's tests come to
---   refused-stays        a refused call leaves the sender, every word of the lent areas and the store as they were; 11 apart
---   withRtt, stale-keeps 11 keeps the round-trip time that the ACK brought, and all else is as it was
---   refused-list         and a refused call leaves every word of its lent list
--- Assumes nothing.
+-- "A refusal changes nothing": for any sender and areas, damaged ones included. Document 01: "All stays as before; 11
+-- alone keeps a new RTT."
+--   verdictIn k w          the verdict of a call's tests
+--   refused-stays          a refused call leaves the sender, every word of the lent areas and the store unchanged,
+--                          except by 11
+--   withRtt, stale-keeps   11 keeps the ACK's round-trip time, and changes nothing else
+--   refused-list           a refused call leaves every word of its lent list unchanged
 use mathlib.Core.Path.{_≡_, refl, sym, ap, _∙_}
 use mathlib.Core.Bool.{Bool, true, false, not, cond}
 use mathlib.Core.List.{List}
@@ -12,29 +13,29 @@ use native.Mathlib.Omega.{arith}
 use lib.Dec.{eqb, leb}
 use lib.ListN.{length}
 use borrow.Author.Tests.{ne-eqb}
-use Rattle.refusals.specs.declared.Refusal.{Refusal}
-use Rattle.refusals.specs.declared.Refusal.the-variants.{BadStore, BadState, BadNumber, BadRtt}
-use Rattle.refusals.specs.declared.Verdict.{Verdict}
-use Rattle.refusals.specs.declared.Verdict.the-variants.{Accepted, Refused}
-use Rattle.refusals.specs.Table.{numberOf}
-use Rattle.refusals.specs.Verdict.{when, answer}
+use Rattle.rules_refusals.specs.declared.Refusal.{Refusal}
+use Rattle.rules_refusals.specs.declared.Refusal.the-variants.{BadStore, BadState, BadNumber, BadRtt}
+use Rattle.rules_refusals.specs.declared.Verdict.{Verdict}
+use Rattle.rules_refusals.specs.declared.Verdict.the-variants.{Accepted, Refused}
+use Rattle.rules_refusals.specs.Table.{numberOf}
+use Rattle.rules_refusals.specs.Verdict.{when, answer}
 use Rattle.rules.specs.Refusals.{badRtt}
-use Rattle.sender.specs.Books.{Books, books, stateOf, rulesOf, areasShort, judge}
-use Rattle.sender.specs.Books.{kept as keptBooks}
+use Rattle.sender.specs.SenderAndAreas.{Books, books, stateOf, rulesOf, areasShort, judge}
+use Rattle.sender.specs.SenderAndAreas.{kept as keptBooks}
 use Rattle.sender.specs.Calls as Messages
 use Rattle.sender.specs.Calls.Stands as Message
 use Rattle.sender.specs.Acks as Acks
 use Rattle.sender.specs.Acks.Stands as Ack
-use Rattle.answers.specs.Naks as Naks
-use Rattle.answers.specs.Naks.Stands as Nak
-use Rattle.answers.specs.Payload as Payloads
-use Rattle.answers.specs.Payload.Stands as Payload
-use Rattle.sender_run.specs.Runs as Runs
-use Rattle.sender_run.specs.Runs.Stands as Run
-use Rattle.pacing.specs.declared.SenderCongestionControl.{SenderCongestionControl}
-use Rattle.pacing.specs.declared.Paced.the-variants as paced
-use Rattle.pacing.specs.Pacing.{due, moved, sndPeriod, input}
-use Rattle.pacing.specs.Pacing.{after as kept}
+use Rattle.nak.specs.Naks as Naks
+use Rattle.nak.specs.Naks.Stands as Nak
+use Rattle.payload.specs.Payload as Payloads
+use Rattle.payload.specs.Payload.Stands as Payload
+use Rattle.run.specs.Runs as Runs
+use Rattle.run.specs.Runs.Stands as Run
+use Rattle.rules_pacing.specs.declared.SenderCongestionControl.{SenderCongestionControl}
+use Rattle.rules_pacing.specs.declared.Paced.the-variants as paced
+use Rattle.rules_pacing.specs.Pacing.{due, moved, sndPeriod, input}
+use Rattle.rules_pacing.specs.Pacing.{after as kept}
 use Rattle.buffer.specs.declared.Settings.{Settings}
 use Rattle.buffer_push.specs.declared.Pushed.{Pushed}
 use Rattle.buffer_ack.specs.declared.FullAck.{FullAck}
@@ -50,8 +51,8 @@ use Rattle.sender.specs.declared.Acknowledged.the-variants as acknowledged-as
 use Rattle.buffer_nak.specs.Report as Report
 use Rattle.buffer_run.specs.Run as Run₀
 use Rattle.sender.specs.declared.Messaged.the-variants as messaged
-use Rattle.answers.specs.declared.Reported.the-variants as reported
-use Rattle.sender_run.specs.declared.Ran.the-variants as ran
+use Rattle.nak.specs.declared.Reported.the-variants as reported
+use Rattle.run.specs.declared.Ran.the-variants as ran
 use Rattle.promises.specs.Promises.{World, Call, message, ack, nak, run, payload, after}
 
 unfoldable pub verdictIn : Call → World → Verdict
@@ -61,7 +62,7 @@ verdictIn (nak words list) w = Nak.verdictOf (Naks.nak (w .books) words list .an
 verdictIn (run now p draining list) w = Run.verdictOf (Runs.run (w .books) now p draining list .answer)
 verdictIn (payload n) w = Payload.verdictOf (Payloads.payload (w .books) n (w .store))
 
--- pacing refuses no message that the tests let through
+-- pacing refuses no message that the tests accept
 finished-accepts : (c : Settings) (p : Pushed) (k : SenderCongestionControl) (now m n : ℕ) → Message.verdictOf (Messages.finished c p (input k now m n)) ≡ Accepted
 unfolding input
 finished-accepts c p k now m n = go (due (k .next) now)
@@ -119,17 +120,17 @@ withBuffer b w =
     let g = w .books in
     record { books = books (Messages.senderOf (g .sender .settings) b (g .sender .pacing)) (g .ring) (g .lost); store = w .store }
 
--- the same world with the round-trip time that an ACK brought
+-- the same world with the round-trip time of an ACK
 abbrev pub withRtt : AckRtt → World → World
 withRtt rtt w = withBuffer (AckOf.takeRtt rtt (stateOf (w .books)) .books) w
 
--- an answer of the crate ack, with the sender round it
+-- an answer of buffer_ack, within the sender
 shown : (s : Sender) (a : Acked) → (Ack.verdictOf (Acks.acknowledged s a) ≡ AckOf.verdictOf a)
     × (Ack.senderAfter (Acks.acknowledged s a) ≡ Messages.senderOf (s .settings) (AckOf.booksOf a) (s .pacing))
 shown s (acked.Done b a) = (refl, refl)
 shown s (acked.Refused b q) = (refl, refl)
 
--- the tests before an ACK reaches the buffer give no 11
+-- the tests before an ACK reaches the buffer never give 11
 early-not-11 : (a b d f : Bool) (q : Refusal)
     → Messages.then (when a BadStore (when b BadState Accepted)) (when d BadNumber (when f BadRtt Accepted)) ≡ Refused q
     → numberOf q ≡ 11
@@ -140,7 +141,7 @@ early-not-11 false false true f q e n = let z : numberOf q ≡ 7 = cc in omega (
 early-not-11 false false false true q e n = let z : numberOf q ≡ 8 = cc in omega (arith, z, n)
 early-not-11 false false false false q e n = let z : _≡_ {A = ℕ} 0 1 = cc in omega arith
 
--- a refused ACK leaves the books of the buffer as they were, but for 11
+-- a refused ACK leaves the buffer's books unchanged, except by 11
 ack-leaves : (w : World) (r : Refusal) (n : ℕ) (full : FullAck) (rtt : AckRtt) → verdictIn (ack n full rtt) w ≡ Refused r
     → after (ack n full rtt) w ≡ withBuffer (cond (eqb (numberOf r) 11) (AckOf.takeRtt rtt (stateOf (w .books)) .books) (w .books .sender .buffer)) w
 unfolding verdictIn after Acks.ack Acks.ackVerdict judge
@@ -172,7 +173,7 @@ ack-stays : (w : World) (r : Refusal) (n : ℕ) (full : FullAck) (rtt : AckRtt) 
     → after (ack n full rtt) w ≡ w
 ack-stays w r n full rtt e other = ack-leaves w r n full rtt e ∙ rw (ne-eqb (numberOf r) 11 other)
 
--- 11 keeps the round-trip time that the ACK brought, and nothing else
+-- 11 keeps the ACK's round-trip time, and changes nothing else
 pub stale-keeps : (w : World) (r : Refusal) (n : ℕ) (full : FullAck) (rtt : AckRtt) → verdictIn (ack n full rtt) w ≡ Refused r → numberOf r ≡ 11
     → after (ack n full rtt) w ≡ withRtt rtt w
 stale-keeps w r n full rtt e is = ack-leaves w r n full rtt e ∙ rw is
@@ -187,7 +188,7 @@ refused-stays (nak words list) w r e n = nak-stays w r words list e
 refused-stays (run now p draining list) w r e n = run-stays w r now p draining list e
 refused-stays (payload m) w r e n = refl
 
--- the lent list of a refused call, too
+-- the lent list of a refused call is unchanged too
 pub refused-list : (w : World) (r : Refusal)
     → ((words list : List ℕ) → verdictIn (nak words list) w ≡ Refused r → Naks.nak (w .books) words list .out ≡ list)
     × ((now p : ℕ) (draining : Bool) (list : List ℕ) → verdictIn (run now p draining list) w ≡ Refused r → Runs.run (w .books) now p draining list .out ≡ list)
@@ -203,7 +204,7 @@ refused-list w r = (
     go a list Accepted e = cc
     go a list (Refused q) e = refl
 
-    on : (a : Run₀.World) (list : List ℕ) (v : Verdict)
+    on : (a : Run₀.Walk) (list : List ℕ) (v : Verdict)
         → Run.verdictOf (answer (λ q. Runs.runs (ran.Refused q) (w .books .ring) (w .books .lost) list) v (Runs.ranBy (w .books .sender) a) .answer) ≡ Refused r
         → answer (λ q. Runs.runs (ran.Refused q) (w .books .ring) (w .books .lost) list) v (Runs.ranBy (w .books .sender) a) .out ≡ list
     on a list Accepted e = cc

@@ -1,5 +1,5 @@
--- `rate::passes` meets its contract: up to what may be counted, the difference and the sum test the same (`same`); above it the sum passes.
--- Assumes nothing.
+-- `rate::passes` meets its contract: up to the most that may be counted, testing the difference is testing the sum
+-- (`same`); above it the sum passes.
 use mathlib.Core.Path.{_≡_, refl, sym}
 use mathlib.Core.Bool.{Bool, true, false}
 use Prim.Native.Nat.{ℕ, _+_, _-_, _^_, _≤_, _<_}

@@ -1,8 +1,7 @@
 -- `rate::rate` meets its contract: the product fits, and `rate-bound` gives the quotient's bound.
--- Assumes nothing.
 use mathlib.Core.Path.{refl}
 use borrow.Author.Needs.{needs}
-use Rattle.rate.specs.Rate.Laws.{rate-bound}
+use Rattle.rate.specs.Laws.{rate-bound}
 use Rattle.rate.proofs.rate.Statement.{statement}
 use Rattle.rate.proofs.rate.Tie as tie
 

@@ -1,5 +1,4 @@
--- `refusals::when` meets its contract: the branch goes by the test.
--- Assumes nothing.
+-- `refusals::when` meets its contract, by the test.
 use Rattle.refusals.proofs.when.Statement.{statement}
 use Rattle.refusals.proofs.when.Tie as tie
 

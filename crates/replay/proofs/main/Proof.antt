@@ -1,5 +1,4 @@
 -- `replay::main` is safe and ends: the measure is the number of turns that are left.
--- Assumes nothing.
 use borrow.Author.Needs.{needs}
 use Rattle.replay.proofs.main.Statement.{statement}
 use Rattle.replay.proofs.main.Tie as tie

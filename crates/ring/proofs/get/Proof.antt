@@ -1,5 +1,4 @@
--- `ring::get` meets its contract: the six words are read in their order.
--- Assumes nothing.
+-- `ring::get` meets its contract: the six words are read in order.
 use Rattle.ring.specs.Entry.{readE}
 use borrow.Author.Needs.{needs}
 use Rattle.ring.proofs.get.Statement.{statement}

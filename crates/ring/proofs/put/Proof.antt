@@ -1,5 +1,4 @@
--- `ring::put` meets its contract: the six words are written in their order.
--- Assumes nothing.
+-- `ring::put` meets its contract: the six words are written in order.
 use native.Mathlib.Nat.{add-zero}
 use native.Mathlib.Omega.{arith}
 use lib.ListN.{length-set}

@@ -1,5 +1,4 @@
--- `ring::wrap` meets its contract: the branch is that of `wrapOf`.
--- Assumes nothing.
+-- `ring::wrap` meets its contract: it branches as `wrapOf` does.
 use native.Mathlib.Omega.{arith}
 use borrow.Author.Tests.{lt-ltb, le-ltb}
 use Rattle.ring.proofs.wrap.Statement.{statement}

@@ -1,8 +1,7 @@
--- The three laws of entries in an area, by which all that is above sees them.
+-- The three laws of entries in an area. The layers above use nothing else of them.
 --   length-writeE   writing keeps the length
 --   readE-same      what was written is read
---   readE-other     another slot is as it was
--- Assumes nothing.
+--   readE-other     other slots don't change
 use mathlib.Core.Path.{_≡_, refl, ap, _∙_}
 use mathlib.Core.List.{List, [], _∷_}
 use Prim.Native.Nat.{ℕ, zero, suc, _+_, _*_, _≤_, _<_}

@@ -1,12 +1,11 @@
--- What the buffer uses of the ring: its packets as a list, under each operation.
---   Placed r xs                       the ring lies within the area
---   placed-facts, facts-placed        the test decides it, both ways
---   slot-below, slot-within           a slot is one of the ring's, and lies within the area
---   slot-apart, slot-removed          two packets lie in two slots; the slots after k packets went
---   packets-length, packets-at        how many packets there are, and packet i
---   packets-set                       packet i written anew
---   packets-push, packets-remove      one more at the back; k fewer at the front
--- Assumes nothing.
+-- What the buffer uses of the ring: its packets as a list, after each operation.
+--   Placed r xs                    the ring lies within the area
+--   placed-facts, facts-placed     the test decides it, both ways
+--   slot-below, slot-within        a slot is one of the ring's, and lies within the area
+--   slot-apart, slot-removed       two packets lie in two slots; the slots once k packets have gone
+--   packets-length, packets-at     how many packets there are, and packet i
+--   packets-set                    packet i overwritten
+--   packets-push, packets-remove   one more at the back; k fewer at the front
 use mathlib.Core.Path.{_≡_, refl, sym, ap, _∙_}
 use mathlib.Core.Bool.{true, and-eq-true-iff}
 use mathlib.Core.List.{List, [], _∷_, _++_}
@@ -19,7 +18,7 @@ use lib.ListN.{length, getD, set, drop, length-set, length-drop, length-append, 
 use lib.Arith.{lt-of-le-ne}
 use lib.Seq.{getD-set-same, getD-set-other, getD-append-seam, getD-drop, ext-getD}
 use borrow.Author.Tests.{ltb-true, ltb-false, leb-true, lt-ltb, le-leb}
-use Rattle.refusals.specs.Choice.{cond-by}
+use Rattle.laws.specs.Choice.{cond-by}
 use Rattle.ring.specs.declared.Entry.{Entry}
 use Rattle.ring.specs.declared.Ring.{Ring}
 use Rattle.ring.specs.Entry.{entry, readE, writeE}
@@ -59,7 +58,7 @@ module _ (r : Ring) (h : r .slot < r .cap) where
       (λ a. wrap-by (λ s. r .slot + i ≡ s → i ≡ j) (r .cap) (r .slot + j) (λ b e. omega arith) (λ b e. omega arith))
       (λ a. wrap-by (λ s. r .slot + i - r .cap ≡ s → i ≡ j) (r .cap) (r .slot + j) (λ b e. omega arith) (λ b e. omega arith))
 
-  -- after k packets went, packet i is what packet k + i was
+  -- once k packets have gone, packet i is what packet k + i was
   pub slot-removed : (k i : ℕ) → k + i < r .cap → slotOf (removed k r) i ≡ slotOf r (k + i)
   unfolding slotOf
   slot-removed k i q =

@@ -1,5 +1,4 @@
 -- `rtt_periods::calculate_periods` meets its contract, field by field.
--- Assumes nothing.
 use borrow.Author.Needs.{needs}
 use Rattle.rtt_periods.proofs.calculate_periods.Statement.{statement}
 use Rattle.rtt_periods.proofs.calculate_periods.Tie as tie

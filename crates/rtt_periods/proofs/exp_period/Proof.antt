@@ -1,12 +1,11 @@
--- `rtt_periods::exp_period` meets its contract: where the longest period holds fewer than `count` times the single one, the product passes it
--- (`exp-held`); else it is multiplied out (`exp-free`), and fits.
--- Assumes nothing.
+-- `rtt_periods::exp_period` meets its contract: if `count` times the single period would pass the longest, it is held
+-- (`exp-held`); otherwise the product is computed (`exp-free`), and fits.
 use Prim.Native.Nat.{_+_, _*_, _<_}
 use native.Mathlib.Nat.{le-div-iff-mul-le}
 use native.Mathlib.Omega.{arith}
-use Rattle.timer.specs.Timer.{longest}
-use Rattle.rtt_periods.specs.Periods.{ns, expPeriod}
-use Rattle.rtt_periods.specs.Periods.Laws.{exp-held, exp-free}
+use Rattle.rules_timers.specs.Timer.{longest}
+use Rattle.rules_timers.specs.Periods.{ns, expPeriod}
+use Rattle.rtt_periods.specs.Laws.{exp-held, exp-free}
 use borrow.Author.Needs.{needs}
 use Rattle.rtt_periods.proofs.exp_period.Statement.{statement}
 use Rattle.rtt_periods.proofs.exp_period.Tie as tie

@@ -1,5 +1,5 @@
--- `run_choice::earliest` meets its contract: what the packets behind give, or else what was found before them, is the choice.
--- Assumes nothing.
+-- `run_choice::earliest` meets its contract: the choice is made among the packets behind, or else it is the one found
+-- before them.
 use mathlib.Core.Path.{_≡_, sym, _∙_}
 use mathlib.Core.Logic.{⊎-elim}
 use Prim.Native.Nat.{_-_, _≤_}

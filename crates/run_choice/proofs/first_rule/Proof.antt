@@ -1,5 +1,4 @@
--- `run_choice::first_rule` meets its contract: by the loss list, the packet that is due, and the rest.
--- Assumes nothing.
+-- `run_choice::first_rule` meets its contract: by the loss list, the packet due, and the rest.
 use mathlib.Core.Path.{sym, ap, _∙_}
 use native.Mathlib.Omega.{arith}
 use borrow.Author.Needs.{needs}

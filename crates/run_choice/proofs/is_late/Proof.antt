@@ -1,5 +1,4 @@
--- `run_choice::is_late` meets its contract: the window is the settings'.
--- Assumes nothing.
+-- `run_choice::is_late` meets its contract: the window is that of the settings.
 use borrow.Author.Needs.{needs}
 use Rattle.run_choice.proofs.is_late.Statement.{statement}
 use Rattle.run_choice.proofs.is_late.Tie as tie

@@ -1,5 +1,5 @@
--- `run_choice::late_packets` meets its contract: the loop has counted i packets, and the rest are counted from the last message on.
--- Assumes nothing.
+-- `run_choice::late_packets` meets its contract: the loop has counted i packets; the rest are counted from the latest
+-- late one's message on.
 use mathlib.Core.Path.{_≡_, sym, _∙_}
 use Prim.Native.Nat.{_+_, _-_, _≤_}
 use native.Mathlib.Omega.{arith}

@@ -1,5 +1,4 @@
--- `run_choice::rule_of_the_rest` meets its contract: by the tests that are made.
--- Assumes nothing.
+-- `run_choice::rule_of_the_rest` meets its contract: test by test.
 use borrow.Author.Needs.{needs}
 use mathlib.Core.Path.{sym, _∙_}
 use borrow.Author.Tests.{lt-ltb, le-ltb}

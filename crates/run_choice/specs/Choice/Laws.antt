@@ -1,10 +1,10 @@
 -- What the code that chooses uses, on plain lists.
---   optionOf d                  a packet that is due, or none
---   Timed b ring                what `earliest` asks for: the ring lies in its area, and the sent packets are buffered
---   late-none, late-front, late-start, late-go, late-stop, late-end    rule 1's count, packet by packet
---   orElse, found, due-start, due-nearer, due-not, due-end         rule 3's choice, packet by packet
---   rest-window, rest-unsent, rest-flush, rest-input, rule-loss, rule-due, rule-rest   the first that applies, by the tests that the code makes
--- Assumes nothing.
+--   optionOf d               the packet due, or none
+--   Timed b ring, sentOnes   what `earliest` requires: the ring lies in its area, the sent packets are buffered; these
+--   late-none, late-front, late-start, late-go, late-stop, late-end   rule 1's count, packet by packet
+--   orElse, found, due-start, due-nearer, due-not, due-end   rule 3's choice, packet by packet
+--   rest-window, rest-unsent, rest-flush, rest-input, rule-loss, rule-due, rule-rest
+--                            the first that applies, from the code's tests
 use mathlib.Core.Path.{_≡_, refl, sym, ap, _∙_}
 use mathlib.Core.Bool.{Bool, true, false, _||_, _&&_, cond}
 use mathlib.Core.List.{List, [], _∷_}
@@ -52,7 +52,7 @@ neither false true x y e = cc
 neither false false x y e = refl
 
 module _ (c : Settings) (now : ℕ) (r : Ring) (ring : List ℕ) where
-  -- the packets from packet i on, by its words
+  -- the packets from packet i on, from its words
   from-at : (i : ℕ) → i < r .len → drop i (packetsOf r ring) ≡ packetOf (readE ring (slotOf r i)) ∷ drop (i + 1) (packetsOf r ring)
   from-at i h =
       let long : i < length (packetsOf r ring) = rw packets-length h in
@@ -99,7 +99,7 @@ module _ (c : Settings) (now : ℕ) (r : Ring) (ring : List ℕ) where
 
 -- ## Rule 3
 
--- what is known from the packets behind, or else what was found before them
+-- the choice among the packets behind, or else what was found before them
 abbrev pub orElse : Option ℕ → Option ℕ → Option ℕ
 orElse none o = o
 orElse (some m) o = some m
@@ -113,7 +113,7 @@ unfolding orHere
 here-or none i d = refl
 here-or (some m) i d = refl
 
--- a place below n, or none
+-- an index below n, or none
 abbrev pub found : ℕ → ℕ → Option ℕ
 found n k = cond (ltb k n) (some k) none
 

@@ -1,11 +1,10 @@
 -- What the code of a sending uses.
---   Recorded k m e r     r is the record of a sending of the entry e, as the number that m stands for
+--   Recorded k m e r                  r is the record of a sending of the entry e, whose number is m on the wire
 --   place-bits, again-bit, recorded   the record's flags, and the record
---   wait-product, wait-small, wait-first, wait-again   what is added to now
---   Sendable, sentBooks, sent-from    what a sending asks for and leaves, and what its parts come to
---   acts-as              the same under another name of the turn
---   written-append       the records of two turns in the list
--- Assumes nothing.
+--   wait-product, wait-first, wait-again   the time from now to the resend
+--   Sendable, sentBooks, sent-from    what a sending requires, the books after it, and the whole from its parts
+--   acts-as                           the same for an equal turn
+--   written-append                    the records of two turns in the list
 use mathlib.Core.Path.{_≡_, refl, sym, ap, _∙_}
 use mathlib.Core.List.{List, [], _∷_, _++_}
 use Prim.Native.Nat.{ℕ, zero, suc, _+_, _-_, _*_, _^_, _≤_, _<_, min}
@@ -13,10 +12,10 @@ use native.Mathlib.Nat.{mul-le-mul}
 use lib.ListN.{length, getD}
 use lib.Seq.{paste}
 use native.Mathlib.Omega.{arith}
-use Rattle.numbers.specs.declared.SeqNumber.{SeqNumber}
-use Rattle.numbers.specs.Modular.{seqs, plus}
-use Rattle.numbers.specs.Modular.Laws.{plus-is}
-use Rattle.encapsulate.specs.Header.{placeBits, bit, stamp}
+use Rattle.rules_numbers.specs.declared.SeqNumber.{SeqNumber}
+use Rattle.rules_numbers.specs.Modular.{seqs, plus}
+use Rattle.rules_numbers.specs.Modular.Laws.{plus-is}
+use Rattle.rules_packets.specs.Header.{placeBits, bit, stamp}
 use Rattle.ring.specs.declared.Entry.{Entry}
 use Rattle.action_records.specs.declared.Record.{Record}
 use Rattle.action_records.specs.declared.Kind as records
@@ -51,11 +50,6 @@ again-bit (suc n) = omega arith
 pub wait-product : (n b : ℕ) → n ≤ 65_535 → b ≤ 1_000_000_000 → n * b ≤ 65_535 * 1_000_000_000
 wait-product n b h k = mul-le-mul h k
 
-pub wait-small : (b n : ℕ) → wait b n ≤ 2 ^ 30 - 1
-unfolding wait
-wait-small b zero = omega arith
-wait-small b (suc n) = omega arith
-
 pub wait-first : (b n : ℕ) → n < 1 → min (2 ^ 30 - 1) b ≡ wait b n
 unfolding wait
 wait-first b zero h = refl
@@ -76,7 +70,7 @@ recorded k number e place count st p q r = record {
 
 -- ## A sending
 
--- what a sending asks for: the packet is there, and its words, the RTT and the time are in their ranges
+-- what a sending requires: the packet is there, and its words, the RTT and the time are in their ranges
 pub record Sendable (b : SendBuffer) (i now : ℕ) (ring : List ℕ) : Type 0 where
   pub placed : Placed (b .ring) ring
   pub inside : i < b .ring .len
@@ -88,11 +82,11 @@ pub record Sendable (b : SendBuffer) (i now : ℕ) (ring : List ℕ) : Type 0 wh
   pub len : readE ring (slotOf (b .ring) i) .len ≤ 1_456
   pub count : readE ring (slotOf (b .ring) i) .count ≤ 65_535
 
--- the books then, and how many records there are
+-- the books after it, and how many records there are
 abbrev pub sentBooks : ℕ → ℕ → SendBuffer → Written
 sentBooks sent n b = record { buffer = put b (b .ring) (b .front .0) sent (b .lost) (b .bytes); count = n + 1 }
 
--- one record more
+-- one more record
 one-written : (n : ℕ) (a : Action) (out : List ℕ) → paste out (n * 24) (encode a) 24 ≡ written n (a ∷ []) out
 unfolding written
 one-written n a out = refl
@@ -123,7 +117,7 @@ pub sent-from : (k : Kind) (now i sent n : ℕ) (b : SendBuffer) (ring out : Lis
 sent-from k now i sent n b ring out e x number r words left h p q w m R o =
     rw (w, q, p, o) (sent-acts k now i sent n b ring out number r h m (rw p at R))
 
--- the same under another name of the turn
+-- the same for an equal turn
 pub acts-as : (tn t : State → Turned) (b : SendBuffer) (ring : List ℕ) (n : ℕ) (out : List ℕ) (w : Written) (words left : List ℕ)
     → ((lost : List ℕ) → tn (state b ring lost) ≡ t (state b ring lost))
     → Acts t b ring n out w words left

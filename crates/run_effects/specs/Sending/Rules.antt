@@ -1,10 +1,9 @@
--- What the code of each rule asks for and leaves, and how its parts make it whole.
---   Standing, Losing, Flushable     books and areas that stand for a sender which keeps the book rules, where a rule is to be done
---   Drops, Waits                    what is left by rule 1, and by the rules that wait
---   sendable                        any packet of such books may be sent
---   losing-sendable, loss-acts      rule 2
+-- What the code of each rule requires and leaves, and how its parts make up the whole.
+--   Standing, Losing, Flushable   books and areas of a sender that keeps the book rules, in which a rule can be done
+--   Drops, Waits                  what is left by rule 1, and by the rules that wait
+--   sendable                      any packet of such books can be sent
+--   losing-sendable, loss-acts    rule 2
 --   flush-acts, drop-acts, ack-waits, input-waits   rules 6, 1, 4 and 7; rule 5 is in Unsent
--- Assumes nothing.
 use mathlib.Core.Path.{_≡_, refl, sym, ap, _∙_, subst}
 use mathlib.Core.List.{List}
 use Prim.Native.Nat.{ℕ, _+_, _-_, _*_, _^_, _≤_, _<_}
@@ -12,9 +11,9 @@ use native.Mathlib.Nat.{mod-eq-of-lt}
 use native.Mathlib.Omega.{arith}
 use lib.ListN.{take, getD}
 use lib.Seq.{paste}
-use Rattle.numbers.specs.declared.SeqNumber.{SeqNumber}
-use Rattle.numbers.specs.Modular.{seqs, plus, dist}
-use Rattle.numbers.specs.Modular.Laws.{plus-is}
+use Rattle.rules_numbers.specs.declared.SeqNumber.{SeqNumber}
+use Rattle.rules_numbers.specs.Modular.{seqs, plus, dist}
+use Rattle.rules_numbers.specs.Modular.Laws.{plus-is}
 use Rattle.ring.specs.declared.Entry.{Entry}
 use Rattle.ring.specs.Entry.{readE}
 use Rattle.ring.specs.Ring.{slotOf}
@@ -24,7 +23,7 @@ use Rattle.action_records.specs.Record.{actionOf, plain}
 use Rattle.rules.specs.Numbers.{wire}
 use Rattle.rules.specs.Settings.{Settings}
 use Rattle.rules.specs.Sender.{Packet, Sender, nothing, wireSizes}
-use Rattle.rules.specs.Books.Laws.{Kept}
+use Rattle.rules_theorems.specs.Laws.BookRules.{Kept}
 use Rattle.rules.specs.Records.{Send, ByLoss, Action, encode, sendRecord, dropRecord, waitInput, waitAck}
 use Rattle.buffer.specs.declared.SendBuffer.{SendBuffer}
 use Rattle.buffer.specs.State.{State, state, packetOf, packetsOf, put}
@@ -57,7 +56,7 @@ pub record Flushable (c : Settings) (st : State) : Type 0 where
 pub record Drops (k : ℕ) (b : SendBuffer) (lost : List ℕ) (n : ℕ) (out : List ℕ) (w : Written) (list : List ℕ) : Type 0 where
   pub is : (xs : List ℕ) → Acted (dropped k) (state b xs lost) n out (state (w .buffer) xs lost) (w .count) list
 
--- a rule that waits changes nothing but the list
+-- a rule that waits changes only the list
 pub record Waits (tn : State → Turned) (b : SendBuffer) (n : ℕ) (out : List ℕ) (w : Written) (list : List ℕ) : Type 0 where
   pub is : (ring lost : List ℕ) → Acted tn (state b ring lost) n out (state (w .buffer) ring lost) (w .count) list
 

@@ -1,10 +1,11 @@
--- What each rule does to books that stand for a sender is what the rules do to the sender.
---   TurnStands c t u            the turn t leaves what stands for what u leaves, and writes its records
+-- What each rule does to books that represent a sender is what it does to the sender in the rules.
+--   TurnStands c t u   what the turn t leaves represents what u leaves, and both have the same records
 --   few, number-is, packet-is, record-is   packets and their numbers
---   stands-dropped, stands-sent, stands-popped   rule 1; a sending; the number nearest the front goes from the loss list
---   nearest-below               the number on the loss list nearest the front is one of the sent ones
---   stands-loss, stands-due, stands-window, stands-next, stands-unsent, stands-flush, stands-input   rules 2 to 7
--- Assumes nothing.
+--   dropped-refines, stands-sent, stands-popped   rule 1; a sending; the number nearest the front leaves the loss list
+--   shorter            the sender with that number off the list
+--   nearest-below      the number on the loss list nearest the front is a sent one
+--   loss-refines, due-refines, window-refines, next-refines, unsent-refines, flush-refines, input-refines
+--                      rules 2 to 7
 use mathlib.Core.Path.{_≡_, refl, sym, ap, _∙_, subst}
 use mathlib.Core.Bool.{Bool, true, false, _&&_, cond}
 use mathlib.Core.List.{List, [], _∷_, _++_, append-nil}
@@ -14,8 +15,10 @@ use native.Mathlib.Omega.{arith}
 use lib.Dec.{ltb, eqb}
 use lib.ListN.{length, take, getD, set}
 use borrow.Author.Tests.{ltb-true}
-use Rattle.numbers.specs.Modular.{seqs, plus, dist}
-use Rattle.rtt.specs.declared.Rtt.{Rtt}
+use Rattle.laws.specs.Ascending.{Ascends}
+use Rattle.laws.specs.Bools.{and-r}
+use Rattle.rules_numbers.specs.Modular.{seqs, plus, dist}
+use Rattle.rules_numbers.specs.declared.Rtt.{Rtt}
 use Rattle.ring.specs.declared.Entry.{Entry}
 use Rattle.ring.specs.Entry.{readE}
 use Rattle.ring.specs.Entry.Laws.{length-writeE}
@@ -23,15 +26,14 @@ use Rattle.ring.specs.Ring.{slotOf}
 use Rattle.loss_list.specs.LossList.Stands as losses
 use Rattle.loss_list.specs.LossList.Stands.{key-wire, wire-plus, stands-first, stands-pop}
 use Rattle.rules.specs.Numbers.{wire}
-use Rattle.rules.specs.Numbers.Laws.{wire-below}
+use Rattle.rules_theorems.specs.Laws.Numbers.{wire-below}
 use Rattle.rules.specs.Settings.{Settings, capacity}
 use Rattle.rules.specs.Sender as rules
 use Rattle.rules.specs.Sender.{Packet, Sender, nothing, end, sentOf, packet, pushOf, remove, wireSizes}
-use Rattle.rules.specs.Books.Laws.{Ascends, Kept}
+use Rattle.rules_theorems.specs.Laws.BookRules.{Kept}
 use Rattle.rules.specs.Records.{Kind, Send, ByTime, ByLoss, Action, sendRecord, dropRecord}
 use Rattle.rules.specs.Run as Rules
 use Rattle.rules.specs.Run.{Turn}
-use Rattle.rules_theorems.proofs.Frame.{and-r}
 use Rattle.buffer.specs.State.{State, packetOf, packetsOf, view, lostOf}
 use Rattle.buffer.specs.State.Stands.{Stands}
 use Rattle.buffer.specs.State.View.{packets-length, packets-at, packets-set, places-set}
@@ -78,9 +80,9 @@ module _ {c : Settings} {st : State} {s : Sender} (S : Stands c st s) where
 
   -- ## Rule 1
 
-  pub stands-dropped : (now k : ℕ) → suc k ≤ length (s .packets) → TurnStands c (dropped (suc k) st) (Rules.dropped c now (suc k) s)
+  pub dropped-refines : (now k : ℕ) → suc k ≤ length (s .packets) → TurnStands c (dropped (suc k) st) (Rules.dropped c now (suc k) s)
   unfolding dropped Rules.dropped dropRecord
-  stands-dropped now k h = record {
+  dropped-refines now k h = record {
     state =
         subst (λ (b : ℕ). Stands c (removed (suc k) (st .books .bytes) st) (remove (suc k) b s)) (S .bytes)
         (stands-removed S (suc k) (rw few h) (st .books .bytes));
@@ -127,7 +129,7 @@ module _ {c : Settings} {st : State} {s : Sender} (S : Stands c st s) where
           ends = refl;
         }
 
-  -- ## The number nearest the front goes from the loss list
+  -- ## The number nearest the front leaves the loss list
 
   module _ (x : ℕ) (xs : List ℕ) (e : s .lost ≡ x ∷ xs) where
     abbrev pub shorter : Sender
@@ -169,29 +171,29 @@ module _ {c : Settings} {st : State} {s : Sender} (S : Stands c st s) (K : Kept 
         rw (S .front, stands-first (st .books .lost) (st .lost) (lost-inside S) (whole S x xs e) .1)
         (key-wire (s .front) x (inside .0) (omega (arith, inside .1, S .next, f .sent, f .placed .len, f .placed .cap)))
 
-    pub stands-loss : TurnStands c (lossTurn now st) (Rules.send c now draining ByLoss x (s .next) xs s)
+    pub loss-refines : TurnStands c (lossTurn now st) (Rules.send c now draining ByLoss x (s .next) xs s)
     unfolding lossTurn popped Rules.send Rules.sent packet Rules.stamped Rules.base
-    stands-loss =
+    loss-refines =
         let at : s .front + (x - s .front) ≡ x = omega (arith, inside .0) in
         let t = stands-sent (stands-popped S x xs e) (x - s .front) (omega (arith, inside .0, inside .1, S .next, f .sent)) ByLoss now (st .books .sent) draining in
         rw (place-is, S .next) (rw at at t)
 
-  -- "the earliest resend time strictly before now": its number is its place from the front
-  pub stands-due : (i : ℕ) → i < st .books .sent → TurnStands c (dueTurn now i st) (Rules.send c now draining ByTime (s .front + i) (s .next) (s .lost) s)
-  stands-due i h =
+  -- "the earliest resend time strictly before now": the number is the front plus the index
+  pub due-refines : (i : ℕ) → i < st .books .sent → TurnStands c (dueTurn now i st) (Rules.send c now draining ByTime (s .front + i) (s .next) (s .lost) s)
+  due-refines i h =
       subst (λ (n : ℕ). TurnStands c (dueTurn now i st) (Rules.send c now draining ByTime (s .front + i) n (s .lost) s)) (sym (S .next))
       (stands-sent S i (omega (arith, f .sent)) ByTime now (st .books .sent) draining)
 
-  pub stands-window : TurnStands c (windowTurn st) (Rules.obey c now draining Rules.window s)
+  pub window-refines : TurnStands c (windowTurn st) (Rules.obey c now draining Rules.window s)
   unfolding windowTurn Rules.obey
-  stands-window = let n : st .books .sent ≡ sentOf s = omega (arith, S .next) in record { state = S; records = rw n; ends = refl }
+  window-refines = let n : st .books .sent ≡ sentOf s = omega (arith, S .next) in record { state = S; records = rw n; ends = refl }
 
-  pub stands-input : TurnStands c (inputTurn st) (Rules.obey c now draining Rules.input s)
+  pub input-refines : TurnStands c (inputTurn st) (Rules.obey c now draining Rules.input s)
   unfolding inputTurn Rules.obey
-  stands-input = record { state = S; records = refl; ends = refl }
+  input-refines = record { state = S; records = refl; ends = refl }
 
-  pub stands-next : st .books .sent < st .books .ring .len → TurnStands c (nextTurn now st) (Rules.sendNext c now draining s)
-  stands-next h =
+  pub next-refines : st .books .sent < st .books .ring .len → TurnStands c (nextTurn now st) (Rules.sendNext c now draining s)
+  next-refines h =
       let n : s .front + (st .books .sent + 1) ≡ suc (s .next) = omega (arith, S .next) in
       subst (λ (m : ℕ). TurnStands c (nextTurn now st) (Rules.send c now draining Send (s .next) m (s .lost) s)) n
       (subst (λ (k : ℕ). TurnStands c (nextTurn now st) (Rules.send c now draining Send k (s .front + (st .books .sent + 1)) (s .lost) s)) (sym (S .next))
@@ -202,9 +204,9 @@ module _ {c : Settings} {st : State} {s : Sender} (S : Stands c st s) (K : Kept 
       let n : pushOf s (s .front) ≡ st .books .ring .slot + capacity c * S .turns = omega (arith, S .pushed, few S) in
       rw n (sym (add-mul-mod-self-left (st .books .ring .slot) (capacity c) (S .turns) ∙ mod-eq-of-lt (rw (← S .cap) (f .placed .slot))))
 
-  pub stands-flush : 1 ≤ st .books .ring .len → TurnStands c (flushTurn c st) (Rules.obey c now draining Rules.flush s)
+  pub flush-refines : 1 ≤ st .books .ring .len → TurnStands c (flushTurn c st) (Rules.obey c now draining Rules.flush s)
   unfolding flushTurn Rules.obey Rules.flushed
-  stands-flush h =
+  flush-refines h =
       let bytes : st .books .bytes - wireSizes c (take 1 (view st)) ≡ s .bytes - wireSizes c (take 1 (s .packets)) = rw (S .bytes, S .packets) in
       let R = stands-removed S 1 h (st .books .bytes - wireSizes c (take 1 (view st))) in
       let zero-on : s .front + 0 ≡ s .front = omega arith in
@@ -244,10 +246,10 @@ module _ {c : Settings} {st : State} {s : Sender} (S : Stands c st s) (K : Kept 
       rw (n, more)
 
 module _ {c : Settings} (now : ℕ) (draining : Bool) where
-  pub stands-unsent : (st : State) {u : Turn} → TurnStands c (nextTurn now st) u → Kept c (u .after) → u .ends ≡ false
+  pub unsent-refines : (st : State) {u : Turn} → TurnStands c (nextTurn now st) u → Kept c (u .after) → u .ends ≡ false
       → TurnStands c (unsentTurn now st) (Rules.extra c now draining u)
   unfolding unsentTurn sixteenTurn Rules.extra
-  stands-unsent st {u} T K n =
+  unsent-refines st {u} T K n =
       rw (sixteenth-is (T .state) K now draining) (go (eqb (wire (u .after .next) % 16) 0 && ltb (u .after .next) (end (u .after))) refl)
     where
       t : State
@@ -270,11 +272,11 @@ module _ {c : Settings} (now : ℕ) (draining : Bool) where
           (cond b both u)
       go true e =
           let more : u .after .next < end (u .after) = ltb-true _ _ (and-r (eqb (wire (u .after .next) % 16) 0) (ltb (u .after .next) (end (u .after))) e) in
-          let N = stands-next (T .state) K now draining (omega (arith, more, few (T .state), T .state .next)) in
+          let N = next-refines (T .state) K now draining (omega (arith, more, few (T .state), T .state .next)) in
           record { state = N .state; records = rw (T .records, N .records); ends = refl }
       go false e = record { state = T .state; records = append-nil (nextTurn now st .records) ∙ T .records; ends = sym n }
 
--- the number on the loss list nearest the front is one of the sent ones
+-- the number on the loss list nearest the front is a sent one
 pub nearest-below : {c : Settings} {st : State} {s : Sender} → Stands c st s → Kept c s → 0 < st .books .lost
     → dist seqs (st .books .front .0) (nearest st) < st .books .sent
 nearest-below {c} {st} {s} S K h = go (s .lost) refl

@@ -1,9 +1,9 @@
--- What the code of rule 5 asks for and leaves: the next unsent, and the one after it where its number divides by 16.
---   Sixteen                       where the one after it goes at once, it may be sent; sixteen-after   so it is after the first sending
---   sixteen-sends, sixteen-idle   the test of its number, as the code has it
+-- What the code of rule 5 requires and leaves: the next unsent, and the one after it if its number is divisible by 16.
+--   Sixteen, sixteen-after        if the one after it is due at once, it can be sent; this holds after the first
+--                                 sending
+--   sixteen-sends, sixteen-idle   the test of its number, as in the code
 --   next-count                    the first sending writes one record
---   unsent-acts                   the two, one after the other
--- Assumes nothing.
+--   unsent-acts                   both, one after the other
 use mathlib.Core.Path.{_≡_, refl, sym, ap, _∙_, subst}
 use mathlib.Core.Bool.{true, false, _&&_}
 use mathlib.Core.List.{List, []}
@@ -12,11 +12,11 @@ use native.Mathlib.Omega.{arith}
 use lib.Dec.{ltb, eqb}
 use lib.ListN.{length-append}
 use borrow.Author.Tests.{ltb-true}
-use Rattle.numbers.specs.declared.SeqNumber.{SeqNumber}
-use Rattle.numbers.specs.Modular.{seqs, plus}
+use Rattle.laws.specs.Bools.{and-r}
+use Rattle.rules_numbers.specs.declared.SeqNumber.{SeqNumber}
+use Rattle.rules_numbers.specs.Modular.{seqs, plus}
 use Rattle.rules.specs.Sender.{Sender, end}
 use Rattle.rules.specs.Run as Rules
-use Rattle.rules_theorems.proofs.Frame.{and-r}
 use Rattle.rules_theorems.proofs.RunKept.{first-kept}
 use Rattle.buffer.specs.declared.SendBuffer.{SendBuffer}
 use Rattle.buffer.specs.State.{State, state}
@@ -25,9 +25,9 @@ use Rattle.run_effects.specs.declared.Written.{Written}
 use Rattle.run_effects.specs.Sending.{Turned, Acted, Acts, sentAs, nextTurn, isSixteenth, idle, sixteenTurn, unsentTurn, written}
 use Rattle.run_effects.specs.Sending.Laws.{Sendable, acts-as, written-append}
 use Rattle.run_effects.specs.Sending.Rules.{Standing, sendable}
-use Rattle.run_effects.specs.Sending.Stands.{few, stands-next}
+use Rattle.run_effects.specs.Sending.Stands.{few, next-refines}
 
--- where the packet after the next one goes at once, it may be sent
+-- if the packet after the next one is due at once, it can be sent
 pub record Sixteen (b : SendBuffer) (now : ℕ) (ring : List ℕ) : Type 0 where
   pub ready : (lost : List ℕ) → isSixteenth (state b ring lost) ≡ true → Sendable b (b .sent) now ring
 
@@ -54,7 +54,7 @@ module _ (now : ℕ) (b : SendBuffer) (ring : List ℕ) (n : ℕ) (out : List �
       acts-as (sixteenTurn now) idle b ring n out (record { buffer = b; count = n }) ring out (λ lost. rw (sym (test-is next lost e) ∙ y))
       (record { is = λ lost. record { state = refl; count = omega arith; list = refl } })
 
--- books that stand for a sender do so after the next unsent is sent
+-- books that represent a sender still do after the next unsent is sent
 pub sixteen-after : (now : ℕ) (b : SendBuffer) (ring : List ℕ) (n : ℕ) (out : List ℕ) (w : Written) (words left : List ℕ) → Standing b ring
     → b .sent < b .ring .len
     → now < 2 ^ 48
@@ -74,14 +74,14 @@ sixteen-after now b ring n out w words left St h early A = record { ready = λ l
     S : Stands (St .settings) (state b₁ words (St .lost)) (Rules.sendNext (St .settings) now false s .after)
     S =
         subst (λ (st : State). Stands (St .settings) st (Rules.sendNext (St .settings) now false s .after)) (sym (A .is (St .lost) .state))
-        (stands-next (St .ready .stands) (St .ready .kept) now false h .state)
+        (next-refines (St .ready .stands) (St .ready .kept) now false h .state)
 
     there : (eqb (plus seqs (b₁ .front .0) (b₁ .sent) % 16) 0 && ltb (b₁ .sent) (b₁ .ring .len)) ≡ true → Sendable b₁ (b₁ .sent) now words
     there e =
         let room : b₁ .sent < b₁ .ring .len = ltb-true _ _ (and-r (eqb (plus seqs (b₁ .front .0) (b₁ .sent) % 16) 0) (ltb (b₁ .sent) (b₁ .ring .len)) e) in
         sendable S (first-kept (St .settings) now false early s more (St .ready .kept)) (b₁ .sent) now room early
 
--- ## The two
+-- ## Both
 
 pub next-count : (now : ℕ) (b : SendBuffer) (ring : List ℕ) (n : ℕ) (out : List ℕ) (w : Written) (words left : List ℕ)
     → Acts (nextTurn now) b ring n out w words left

@@ -1,5 +1,4 @@
 -- `sender::acknowledge` meets its contract, case by case.
--- Assumes nothing.
 use Rattle.sender.specs.Acks.Laws.{acknowledged-by}
 use borrow.Author.Needs.{needs}
 use Rattle.sender.proofs.acknowledge.Statement.{statement}

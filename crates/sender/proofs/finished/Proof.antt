@@ -1,5 +1,4 @@
--- `sender::finished` meets its contract, case by case: what `answered` makes of an estimate or of none, or the refusal.
--- Assumes nothing.
+-- `sender::finished` meets its contract, case by case: `answered` with a period or without, or the refusal.
 use mathlib.Core.Path.{_∙_}
 use Rattle.sender.specs.Calls.Laws.{finished-as}
 use borrow.Author.Needs.{needs}

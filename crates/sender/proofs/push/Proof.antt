@@ -1,5 +1,4 @@
 -- `sender::push` meets its contract: what is pushed and what pacing answers (`push-done`).
--- Assumes nothing.
 use Rattle.sender.specs.Calls.Laws.{push-done}
 use borrow.Author.Needs.{needs}
 use Rattle.sender.proofs.push.Statement.{statement}

@@ -1,19 +1,18 @@
--- What the code of the ACK comes to.
---   acknowledged-by    the answer, by what the crate ack answered
---   judge-ack-is       the code's tests
---   asked              an ACK that 2, 3, 7 and 8 do not refuse
--- Assumes nothing.
+-- The code of the ACK agrees with its definition.
+--   acknowledged-by   the answer, from what buffer_ack answered
+--   judge-ack-is      the code's tests
+--   asked             an ACK that 2, 3, 7 and 8 don't refuse
 use mathlib.Core.Path.{_≡_, sym, ap, _∙_}
 use mathlib.Core.Bool.{Bool}
 use Prim.Native.Nat.{ℕ, _^_}
 use lib.Dec.{leb}
 use lib.ListN.{length}
 use borrow.Author.Tests.{leb-false}
-use Rattle.refusals.specs.declared.Refusal.the-variants.{BadNumber, BadRtt}
-use Rattle.refusals.specs.declared.Verdict.{Verdict}
-use Rattle.refusals.specs.declared.Verdict.the-variants.{Accepted}
-use Rattle.refusals.specs.Verdict.{when}
-use Rattle.refusals.specs.Verdict.Laws.{when-accepted}
+use Rattle.rules_refusals.specs.declared.Refusal.the-variants.{BadNumber, BadRtt}
+use Rattle.rules_refusals.specs.declared.Verdict.{Verdict}
+use Rattle.rules_refusals.specs.declared.Verdict.the-variants.{Accepted}
+use Rattle.rules_refusals.specs.Verdict.{when}
+use Rattle.refusals.specs.Laws.{when-accepted}
 use Rattle.rules.specs.Refusals.{badRtt}
 use Rattle.book_rules.specs.Kept.Stands.{kept-ready}
 use Rattle.buffer_ack.specs.declared.AckRtt.{AckRtt}
@@ -21,8 +20,8 @@ use Rattle.buffer_ack.specs.declared.Acked.{Acked}
 use Rattle.buffer_ack.specs.Ack.{rttOf}
 use Rattle.buffer_ack.specs.Ack.Laws.{Asked}
 use Rattle.sender.specs.declared.Sender.{Sender}
-use Rattle.sender.specs.Books.{Books, stateOf, rulesOf, areasShort, judge, judgeAreas}
-use Rattle.sender.specs.Books.Laws.{judged}
+use Rattle.sender.specs.SenderAndAreas.{Books, stateOf, rulesOf, areasShort, judge, judgeAreas}
+use Rattle.sender.specs.SenderAndAreas.Laws.{judged}
 use Rattle.sender.specs.Calls.{then}
 use Rattle.sender.specs.Calls.Laws.{then-accepted}
 use Rattle.sender.specs.Acks.{ackVerdict, acknowledged}

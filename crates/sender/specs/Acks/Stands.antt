@@ -1,42 +1,42 @@
--- An ACK on the sender and its lent areas is the ACK of the rules, for every sender that the books stand for and that keeps the book rules.
---   verdictOf, saidOf, senderAfter   an answer's verdict, what it says, and the sender from then on
+-- An ACK on the sender and its lent areas is the ACK of the rules, for every sender that the books represent and that
+-- keeps the book rules.
+--   verdictOf, saidOf, senderAfter   an answer's verdict, its values, and the sender from then on
 --   Answers                          an outcome of the call is an answer of the rules
---   ack-is                           the call answers and leaves what the rules say, 11 alone a new RTT
---   ack-short, ack-broken            where an area is too short, and then where the books break a rule
--- Assumes nothing.
+--   ack-refines                      the call answers and leaves what the rules say; 11 alone keeps a new RTT
+--   ack-short, ack-broken            if an area is too short; and otherwise, if the books break a rule
 use mathlib.Core.Path.{_≡_, refl, sym, ap, _∙_}
 use mathlib.Core.Bool.{Bool, true, false}
 use Prim.Native.Nat.{ℕ, _^_}
 use lib.Dec.{leb, eqb}
 use lib.ListN.{length}
 use borrow.Author.Tests.{leb-false}
-use Rattle.refusals.specs.declared.Refusal.{Refusal}
-use Rattle.refusals.specs.declared.Refusal.the-variants.{BadStore, BadState, BadNumber, BadRtt}
-use Rattle.refusals.specs.declared.Verdict.{Verdict}
-use Rattle.refusals.specs.declared.Verdict.the-variants.{Accepted, Refused}
-use Rattle.refusals.specs.Table.{numberOf}
-use Rattle.refusals.specs.Verdict.{when, answer}
-use Rattle.refusals.specs.Choice.{cond-by}
+use Rattle.rules_refusals.specs.declared.Refusal.{Refusal}
+use Rattle.rules_refusals.specs.declared.Refusal.the-variants.{BadStore, BadState, BadNumber, BadRtt}
+use Rattle.rules_refusals.specs.declared.Verdict.{Verdict}
+use Rattle.rules_refusals.specs.declared.Verdict.the-variants.{Accepted, Refused}
+use Rattle.rules_refusals.specs.Table.{numberOf}
+use Rattle.rules_refusals.specs.Verdict.{when, answer}
+use Rattle.laws.specs.Choice.{cond-by}
 use Rattle.rules.specs.Settings.{Settings}
 use Rattle.rules.specs.Sender as rules
 use Rattle.rules.specs.Ack.{acknowledge, takeRtt}
-use Rattle.rules.specs.Books.Laws.{Kept, facts-kept}
+use Rattle.rules_theorems.specs.Laws.BookRules.{Kept, facts-kept}
 use Rattle.rules.specs.Refusals as tests
 use Rattle.rules.specs.Refusals.{badRtt}
 use Rattle.rules.specs.Calls as calls
-use Rattle.rules.specs.Calls.Laws.{answer-by}
+use Rattle.rules_theorems.specs.Laws.Calls.{answer-by}
 use Rattle.buffer_ack.specs.declared.FullAck.{FullAck}
 use Rattle.buffer_ack.specs.declared.AckRtt.{AckRtt}
 use Rattle.buffer_ack.specs.declared.Acked.{Acked}
 use Rattle.buffer_ack.specs.declared.Acked.the-variants as acked
 use Rattle.buffer_ack.specs.Ack as Ack
 use Rattle.buffer_ack.specs.Ack.{fullOf, rttOf, update}
-use Rattle.buffer_ack.specs.Ack.Stands.{update-is}
+use Rattle.buffer_ack.specs.Ack.Stands.{ack-refines as buffer-refines}
 use Rattle.sender.specs.declared.Sender.{Sender}
 use Rattle.sender.specs.declared.Acknowledged.{Acknowledged}
 use Rattle.sender.specs.declared.Acknowledged.the-variants as done
-use Rattle.sender.specs.Books.{Books, books, stateOf, rulesOf, areasShort, kept, judge}
-use Rattle.sender.specs.Books.Stands.{StandsFor, stands-as, areas-long, judge-accepted, judge-short, judge-broken}
+use Rattle.sender.specs.SenderAndAreas.{Books, books, stateOf, rulesOf, areasShort, kept, judge}
+use Rattle.sender.specs.SenderAndAreas.Stands.{StandsFor, stands-as, areas-long, judge-accepted, judge-short, judge-broken}
 use Rattle.sender.specs.Calls.{senderOf}
 use Rattle.sender.specs.Acks.{ackVerdict, acknowledged, ack}
 
@@ -75,7 +75,7 @@ module _ (g : Books) (s : rules.Sender) (S : StandsFor g s) (K : Kept (rulesOf g
   abbrev call : calls.Call
   call = calls.ack n (fullOf full) (rttOf rtt)
 
-  -- an ACK leaves pacing as it is
+  -- an ACK doesn't change pacing
   ack-pacing : calls.answer c call s .after .pacing ≡ s .pacing
   unfolding calls.left calls.withRtt calls.after takeRtt acknowledge
   ack-pacing =
@@ -90,7 +90,7 @@ module _ (g : Books) (s : rules.Sender) (S : StandsFor g s) (K : Kept (rulesOf g
   taken : leb (2 ^ 31) n ≡ false → badRtt (rttOf rtt) ≡ false
       → Answers g (acknowledged (g .sender) (update c (record { 0 = n }) full rtt (stateOf g))) (calls.answer c call s)
   taken e b =
-      let A = update-is (S .buffer) K (record { 0 = n }) (leb-false (2 ^ 31) n e) full rtt b in
+      let A = buffer-refines (S .buffer) K (record { 0 = n }) (leb-false (2 ^ 31) n e) full rtt b in
       let H = shown (g .sender) (update c (record { 0 = n }) full rtt (stateOf g)) in
       record {
         verdict = H .verdict ∙ A .verdict;
@@ -113,9 +113,9 @@ module _ (g : Books) (s : rules.Sender) (S : StandsFor g s) (K : Kept (rulesOf g
   go false true e f = refused-by BadRtt (rw (facts-kept c s K, e, f)) refl
   go false false e f = taken e f
 
-  pub ack-is : Answers g (ack g n full rtt) (calls.answer c call s)
+  pub ack-refines : Answers g (ack g n full rtt) (calls.answer c call s)
   unfolding ack ackVerdict
-  ack-is = rw judged (go (leb (2 ^ 31) n) (badRtt (rttOf rtt)) refl refl)
+  ack-refines = rw judged (go (leb (2 ^ 31) n) (badRtt (rttOf rtt)) refl refl)
 
 module _ (g : Books) (n : ℕ) (full : FullAck) (rtt : AckRtt) where
   pub ack-short : areasShort (rulesOf g) (length (g .ring)) (length (g .lost)) ≡ true → ack g n full rtt ≡ done.Refused (g .sender) BadStore

@@ -1,11 +1,10 @@
--- What the code of the calls asks for, and what it comes to.
---   Counting s                   the byte count with a message may be summed; counting   so it is where 2 and 3 do not apply
+-- What the code of the calls requires, and that it agrees with its definition.
+--   Counting s, counting                 the byte count with a message can be summed; it can if 2 and 3 don't apply
 --   then-accepted, then-refused, then-by   the tests after 2 and 3
---   short-is                     the code's tests for 2
---   Pushable, pushable           a message that no test refuses
---   push-done, finished-as       what is pushed, and what pacing answers, make up its answer
---   made-bad, made-refused, made-ready   a sender asked for, by its settings and then by its mode
--- Assumes nothing.
+--   short-is                             the code's tests for 2
+--   Pushable, pushable                   a message that no test refuses
+--   push-done, finished-as               its answer, from what was pushed and what pacing answered
+--   made-bad, made-refused, made-ready   a request for a new sender, by its settings and then by its mode
 use mathlib.Core.Path.{_≡_, refl, sym, ap, _∙_}
 use mathlib.Core.Bool.{Bool, true, false, cond, not, _||_, _&&_}
 use mathlib.Core.List.{List}
@@ -14,23 +13,23 @@ use native.Mathlib.Omega.{arith}
 use lib.Dec.{ltb, leb}
 use lib.ListN.{length}
 use borrow.Author.Tests.{ltb-false, leb-false}
-use Rattle.refusals.specs.declared.Refusal.{Refusal}
-use Rattle.refusals.specs.declared.Refusal.the-variants.{BadSetting, BadTime, TooLong, CountFull}
-use Rattle.refusals.specs.declared.Verdict.{Verdict}
-use Rattle.refusals.specs.declared.Verdict.the-variants.{Accepted, Refused}
-use Rattle.refusals.specs.Verdict.{when, answer}
-use Rattle.refusals.specs.Verdict.Laws.{when-accepted}
-use Rattle.encapsulate.specs.Split.{count}
-use Rattle.pacing.specs.declared.SenderCongestionControl.{SenderCongestionControl}
-use Rattle.pacing.specs.declared.Made as pacing
-use Rattle.pacing.specs.declared.Made.the-variants as control
-use Rattle.pacing.specs.declared.Paced.{Paced}
-use Rattle.pacing.specs.declared.options.LiveBandwidthMode.{LiveBandwidthMode}
-use Rattle.pacing.specs.Period.{modeInRange}
-use Rattle.pacing.specs.Books.{new}
-use Rattle.pacing.specs.Books as PacingBooks
-use Rattle.pacing.specs.Pacing.{countFull, input, onInput}
-use Rattle.pacing.specs.Pacing.Laws as PacingLaws
+use Rattle.rules_refusals.specs.declared.Refusal.{Refusal}
+use Rattle.rules_refusals.specs.declared.Refusal.the-variants.{BadSetting, BadTime, TooLong, CountFull}
+use Rattle.rules_refusals.specs.declared.Verdict.{Verdict}
+use Rattle.rules_refusals.specs.declared.Verdict.the-variants.{Accepted, Refused}
+use Rattle.rules_refusals.specs.Verdict.{when, answer}
+use Rattle.refusals.specs.Laws.{when-accepted}
+use Rattle.rules_packets.specs.Split.{count}
+use Rattle.rules_pacing.specs.declared.SenderCongestionControl.{SenderCongestionControl}
+use Rattle.rules_pacing.specs.declared.Made as pacing
+use Rattle.rules_pacing.specs.declared.Made.the-variants as control
+use Rattle.rules_pacing.specs.declared.Paced.{Paced}
+use Rattle.rules_pacing.specs.declared.LiveBandwidthMode.{LiveBandwidthMode}
+use Rattle.rules_pacing.specs.Period.{modeInRange}
+use Rattle.rules_pacing.specs.Kept.{new}
+use Rattle.rules_pacing.specs.Kept as PacingBooks
+use Rattle.rules_pacing.specs.Pacing.{countFull, input, onInput}
+use Rattle.pacing.specs.Laws.Pacing as PacingLaws
 use Rattle.rules.specs.Settings.{Settings, inRange, storeSize}
 use Rattle.rules.specs.Refusals.{newVerdict}
 use Rattle.rules_theorems.proofs.Verdicts.{or-false}
@@ -41,15 +40,15 @@ use Rattle.buffer.specs.State.Facts.{stands-facts}
 use Rattle.book_rules.specs.Kept.Stands.{kept-ready}
 use Rattle.buffer_push.specs.declared.Pushed.{Pushed}
 use Rattle.buffer_push.specs.Message as Message
-use Rattle.buffer_push.specs.Message.{World, work, world}
+use Rattle.buffer_push.specs.Message.{Pushing, work, pushing}
 use Rattle.buffer_push.specs.Message.Laws.{message-made}
 use Rattle.buffer_push.specs.Message.Whole.{Sendable}
 use Rattle.sender.specs.declared.Sender.{Sender}
 use Rattle.sender.specs.declared.Made.{Made}
 use Rattle.sender.specs.declared.Made.the-variants as of
 use Rattle.sender.specs.declared.Messaged.{Messaged}
-use Rattle.sender.specs.Books.{Books, stateOf, rulesOf, areasShort, storeShort, judge}
-use Rattle.sender.specs.Books.Laws.{judged}
+use Rattle.sender.specs.SenderAndAreas.{Books, stateOf, rulesOf, areasShort, storeShort, judge}
+use Rattle.sender.specs.SenderAndAreas.Laws.{judged}
 use Rattle.sender.specs.Calls.{senderOf, made, countIsFull, inputVerdict, messageVerdict, shortFor, then, finished, area, doneBy, done, judgeWithStore}
 
 pub record Counting (s : Sender) : Type 0 where
@@ -116,10 +115,10 @@ module _ (g : Books) (time now : ℕ) (payload store : List ℕ) where
       }
 
   module _ (A : Pushable g time now payload store) (p : Pushed) (ring lost over : List ℕ) (q : Paced) (a : Messaged)
-      (e : world (work p ring lost) over ≡ Message.message (rulesOf g) time payload (stateOf g) store) (f : q ≡ onInput (g .sender .pacing) now (p .made) (length payload))
+      (e : pushing (work p ring lost) over ≡ Message.message (rulesOf g) time payload (stateOf g) store) (f : q ≡ onInput (g .sender .pacing) now (p .made) (length payload))
       (h : a ≡ finished (g .sender .settings) p q) where
     made-is : p .made ≡ count (g .sender .settings .size) (length payload)
-    made-is = ap (λ (w : World). w .work .made) e ∙ message-made (A .sendable .ready .stands) time now payload store
+    made-is = ap (λ (w : Pushing). w .work .made) e ∙ message-made (A .sendable .ready .stands) time now payload store
 
     paced-is : q ≡ input (g .sender .pacing) now (p .made) (length payload)
     paced-is = f ∙ rw made-is (PacingLaws.onInput-accepted (g .sender .pacing) now _ (length payload) (A .paced))
@@ -131,7 +130,7 @@ module _ (g : Books) (time now : ℕ) (payload store : List ℕ) where
 pub finished-as : (c : code.Settings) (p : Pushed) (q x : Paced) → q ≡ x → finished c p x ≡ finished c p q
 finished-as c p q x e = ap (finished c p) (sym e)
 
--- what is made of the books at the start and what pacing answers
+-- the answer from the new books and from what pacing answered
 abbrev start : code.Settings → pacing.Made → Made
 start c (control.Control p) = of.Ready (senderOf c (fresh (settingsOf c)) p)
 start c (control.Refused r) = of.Refused r

@@ -1,12 +1,13 @@
--- A message on the sender and its lent areas is the message of the rules, for every sender that the books stand for and that keeps the book
--- rules.
---   verdictOf, saidOf, senderAfter   an answer's verdict, what it says, and the sender from then on
---   Answers                          an outcome of the call is an answer of the rules, and the store is theirs
---   verdict-is                       the tests come to what they do in the rules
---   message-is                       the call answers and leaves what the rules say
---   message-short, message-broken    where an area is too short, and then where the books break a rule
---   made-verdict, made-stands        a sender asked for: its verdict, and that it is the rules' fresh one
--- Assumes nothing.
+-- A message on the sender and its lent areas is the message of the rules, for every sender that the books represent and
+-- that keeps the book rules.
+--   verdictOf, saidOf, senderAfter   an answer's verdict, its values, and the sender from then on
+--   periodIn, madeVerdict            a new period, if any; the verdict on a new sender
+--   Answers                          an outcome of the call is an answer of the rules, with the same store
+--   verdict-is                       the tests give the verdict of the rules
+--   message-refines                  the call answers and leaves what the rules say
+--   message-short, message-broken    if an area is too short; and otherwise, if the books break a rule
+--   made-verdict, new-refines        a request for a new sender: its verdict; the new sender is the fresh one of the
+--                                    rules
 use mathlib.Core.Path.{_≡_, refl, sym, ap, _∙_}
 use mathlib.Core.Bool.{Bool, true, false, cond}
 use mathlib.Core.List.{List, [], _∷_}
@@ -15,24 +16,24 @@ use Prim.Native.Nat.{ℕ, _*_, _≤_}
 use lib.Dec.{leb, eqb}
 use lib.ListN.{length}
 use borrow.Author.Tests.{le-ltb}
-use Rattle.refusals.specs.declared.Refusal.{Refusal}
-use Rattle.refusals.specs.declared.Refusal.the-variants.{BadStore, BadState}
-use Rattle.refusals.specs.declared.Verdict.{Verdict}
-use Rattle.refusals.specs.declared.Verdict.the-variants.{Accepted, Refused}
-use Rattle.refusals.specs.Table.{numberOf}
-use Rattle.refusals.specs.Verdict.{answer}
-use Rattle.refusals.specs.Choice.{cond-by}
-use Rattle.encapsulate.specs.Split.{count}
-use Rattle.pacing.specs.declared.SenderCongestionControl.{SenderCongestionControl}
-use Rattle.pacing.specs.declared.Paced.{Paced}
-use Rattle.pacing.specs.declared.Paced.the-variants as paced
-use Rattle.pacing.specs.declared.options.LiveBandwidthMode.{LiveBandwidthMode}
-use Rattle.pacing.specs.Books as Pacing
-use Rattle.pacing.specs.Pacing.{after, due, input, moved, sndPeriod}
+use Rattle.rules_refusals.specs.declared.Refusal.{Refusal}
+use Rattle.rules_refusals.specs.declared.Refusal.the-variants.{BadStore, BadState}
+use Rattle.rules_refusals.specs.declared.Verdict.{Verdict}
+use Rattle.rules_refusals.specs.declared.Verdict.the-variants.{Accepted, Refused}
+use Rattle.rules_refusals.specs.Table.{numberOf}
+use Rattle.rules_refusals.specs.Verdict.{answer}
+use Rattle.laws.specs.Choice.{cond-by}
+use Rattle.rules_packets.specs.Split.{count}
+use Rattle.rules_pacing.specs.declared.SenderCongestionControl.{SenderCongestionControl}
+use Rattle.rules_pacing.specs.declared.Paced.{Paced}
+use Rattle.rules_pacing.specs.declared.Paced.the-variants as paced
+use Rattle.rules_pacing.specs.declared.LiveBandwidthMode.{LiveBandwidthMode}
+use Rattle.rules_pacing.specs.Kept as Pacing
+use Rattle.rules_pacing.specs.Pacing.{after, due, input, moved, sndPeriod}
 use Rattle.rules.specs.Settings.{Settings, storeSize, inRange, capacity}
 use Rattle.rules.specs.Sender as rules
 use Rattle.rules.specs.Sender.{Packet}
-use Rattle.rules.specs.Books.Laws.{Kept, facts-kept}
+use Rattle.rules_theorems.specs.Laws.BookRules.{Kept, facts-kept}
 use Rattle.rules.specs.Message.{periodOf, push, pushAll, append, makeRoom, begin, packetsOf}
 use Rattle.rules.specs.Refusals as tests
 use Rattle.rules.specs.Calls as calls
@@ -41,7 +42,7 @@ use Rattle.buffer.specs.State.{settingsOf, fresh}
 use Rattle.buffer.specs.State.Fresh.{fresh-stands}
 use Rattle.buffer_push.specs.declared.Pushed.{Pushed}
 use Rattle.buffer_push.specs.Message as Message
-use Rattle.buffer_push.specs.Message.Laws.{stands-message, message-made, message-said, message-store}
+use Rattle.buffer_push.specs.Message.Laws.{message-refines as buffer-refines, message-made, message-said, message-store}
 use Rattle.sender.specs.declared.Sender.{Sender}
 use Rattle.sender.specs.declared.Made.{Made}
 use Rattle.sender.specs.declared.Made.the-variants as start
@@ -49,8 +50,8 @@ use Rattle.sender.specs.declared.NewPeriod.{NewPeriod}
 use Rattle.sender.specs.declared.NewPeriod.the-variants as period
 use Rattle.sender.specs.declared.Messaged.{Messaged}
 use Rattle.sender.specs.declared.Messaged.the-variants as messaged
-use Rattle.sender.specs.Books.{Books, books, stateOf, rulesOf, storeShort, kept, judge}
-use Rattle.sender.specs.Books.Stands.{StandsFor, stands-as, areas-long, judge-accepted, judge-short, judge-broken}
+use Rattle.sender.specs.SenderAndAreas.{Books, books, stateOf, rulesOf, storeShort, kept, judge}
+use Rattle.sender.specs.SenderAndAreas.Stands.{StandsFor, stands-as, areas-long, judge-accepted, judge-short, judge-broken}
 use Rattle.sender.specs.Calls.{senderOf, made, countIsFull, inputVerdict, messageVerdict, shortFor, finished, Messages, area, pushedOf, done, message}
 
 abbrev pub verdictOf : Messaged → Verdict
@@ -69,7 +70,7 @@ abbrev pub senderAfter : Sender → Messaged → Sender
 senderAfter s (messaged.Done t a) = t
 senderAfter s (messaged.Refused r) = s
 
--- the outcome l of the call is the answer a of the rules, and it leaves their store
+-- the outcome l of the call is the answer a of the rules, and it leaves the same store
 pub record Answers (g : Books) (bytes : List ℕ) (l : Messages) (a : calls.Answer) : Type 0 where
   pub verdict : verdictOf (l .answer) ≡ a .verdict
   pub said : saidOf (l .answer) ≡ a .said
@@ -77,7 +78,7 @@ pub record Answers (g : Books) (bytes : List ℕ) (l : Messages) (a : calls.Answ
   pub stands : StandsFor (books (senderAfter (g .sender) (l .answer)) (l .ring) (l .lost)) (a .after)
   pub store : l .store ≡ bytes
 
--- a message's packets leave pacing as it is
+-- a message's packets don't change pacing
 room-pacing : (c : Settings) (s : rules.Sender) → makeRoom c s .pacing ≡ s .pacing
 unfolding makeRoom
 room-pacing c s = cond-by (λ (t : rules.Sender). t .pacing ≡ s .pacing) (leb _ (length (s .packets))) _ s (λ q. refl) (λ q. refl)
@@ -87,7 +88,7 @@ unfolding pushAll append
 push-pacing c [] s = refl
 push-pacing c (p ∷ ps) s = push-pacing c ps (append c p (makeRoom c s)) ∙ room-pacing c s
 
--- what an accepted message answers, whether or not an estimate is due
+-- the answer to an accepted message, whether or not an estimate is due
 record Finished (c : code.Settings) (s : Sender) (p : Pushed) (q : Paced) (kept : SenderCongestionControl) : Type 0 where
   pub verdict : verdictOf (finished c p q) ≡ Accepted
   pub said : saidOf (finished c p q) ≡ calls.Pushed (p .made) (p .removed) (p .bytes) (periodOf q)
@@ -120,7 +121,7 @@ module _ (g : Books) (s : rules.Sender) (S : StandsFor g s) (K : Kept (rulesOf g
     unfolding messageVerdict inputVerdict countIsFull tests.messageVerdict tests.countIsFull
     verdict-is = rw (judged, facts-kept c s K, S .buffer .bytes, S .pacing)
 
-    abbrev pushed : Message.World
+    abbrev pushed : Message.Pushing
     pushed = Message.message c time payload (stateOf g) store
 
     pacing-is : push c time now (length payload) s .pacing ≡ after (s .pacing) now (count (c .size) (length payload)) (length payload)
@@ -147,13 +148,13 @@ module _ (g : Books) (s : rules.Sender) (S : StandsFor g s) (K : Kept (rulesOf g
           settings = ap (λ (t : Sender). t .settings) (F .sender);
           stands =
               stands-as _ _ (pushed .work .state .ring) (pushed .work .state .lost) (push c time now n s) (F .sender)
-              (record { buffer = stands-message (S .buffer) time now payload store; pacing = rw (made, S .pacing) (sym pacing-is) });
+              (record { buffer = buffer-refines (S .buffer) time now payload store; pacing = rw (made, S .pacing) (sym pacing-is) });
           store = message-store (S .buffer) time now payload store;
         }
 
-    pub message-is : Answers g (calls.storeAfter c call s store) (message g time now payload store) (calls.answer c call s)
+    pub message-refines : Answers g (calls.storeAfter c call s store) (message g time now payload store) (calls.answer c call s)
     unfolding message calls.answer calls.verdictOf calls.storeAfter
-    message-is = rw verdict-is (go (tests.messageVerdict c time now (length payload) s))
+    message-refines = rw verdict-is (go (tests.messageVerdict c time now (length payload) s))
 
 module _ (g : Books) (time now : ℕ) (payload store : List ℕ) where
   abbrev refused : Refusal → Messages
@@ -167,7 +168,7 @@ module _ (g : Books) (time now : ℕ) (payload store : List ℕ) where
   unfolding message messageVerdict
   message-broken e b = rw (e, judge-broken g b)
 
--- ## A sender asked for
+-- ## A request for a new sender
 
 abbrev pub madeVerdict : Made → Verdict
 madeVerdict (start.Ready s) = Accepted
@@ -183,7 +184,7 @@ module _ (c : code.Settings) (mode : LiveBandwidthMode) where
       go (Refused r) = refl
 
   -- "at start", in any areas that are long enough
-  pub made-stands : (ring lost : List ℕ) → inRange (settingsOf c) ≡ true → capacity (settingsOf c) * 6 ≤ length ring → capacity (settingsOf c) ≤ length lost
+  pub new-refines : (ring lost : List ℕ) → inRange (settingsOf c) ≡ true → capacity (settingsOf c) * 6 ≤ length ring → capacity (settingsOf c) ≤ length lost
       → StandsFor (books (senderOf c (fresh (settingsOf c)) (Pacing.fresh mode)) ring lost) (rules.fresh (settingsOf c) mode)
   unfolding rules.fresh
-  made-stands ring lost e area room = record { buffer = fresh-stands (settingsOf c) mode ring lost e area room; pacing = refl }
+  new-refines ring lost e area room = record { buffer = fresh-stands (settingsOf c) mode ring lost e area room; pacing = refl }

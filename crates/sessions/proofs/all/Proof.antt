@@ -1,5 +1,4 @@
 -- `sessions::all` is safe and ends: the areas stay as long as they were, and the measure is the number of turns that are left.
--- Assumes nothing.
 use mathlib.Core.Path.{_≡_, refl}
 use lib.ListN.{length}
 use borrow.Author.Needs.{needs}

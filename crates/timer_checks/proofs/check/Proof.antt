@@ -1,8 +1,7 @@
--- `timer_checks::check` meets its contract: refused as `judge` says, else what `tick` ensures of the one timer.
--- Assumes nothing.
-use Rattle.timer_checks.specs.declared.TimersChecked.the-variants.{Refused}
-use Rattle.timer_checks.specs.Checks.{check}
-use Rattle.refusals.specs.Verdict.Laws.{answer-refused, answer-accepted}
+-- `timer_checks::check` meets its contract: refused as `judge` says, or what `tick` ensures of the one timer.
+use Rattle.rules_timers.specs.declared.TimersChecked.the-variants.{Refused}
+use Rattle.rules_timers.specs.Checks.{check}
+use Rattle.refusals.specs.Laws.{answer-refused, answer-accepted}
 use borrow.Author.Needs.{needs}
 use Rattle.timer_checks.proofs.check.Statement.{statement}
 use Rattle.timer_checks.proofs.check.Tie as tie

@@ -1,8 +1,7 @@
--- `timer_checks::check_peer_idle_timeout` meets its contract: refused as `judge` says, else what `idle` ensures.
--- Assumes nothing.
-use Rattle.timer_checks.specs.declared.TimersChecked.the-variants.{Refused}
-use Rattle.timer_checks.specs.Checks.{checkPeerIdleTimeout}
-use Rattle.refusals.specs.Verdict.Laws.{answer-refused, answer-accepted}
+-- `timer_checks::check_peer_idle_timeout` meets its contract: refused as `judge` says, or what `idle` ensures.
+use Rattle.rules_timers.specs.declared.TimersChecked.the-variants.{Refused}
+use Rattle.rules_timers.specs.Checks.{checkPeerIdleTimeout}
+use Rattle.refusals.specs.Laws.{answer-refused, answer-accepted}
 use borrow.Author.Needs.{needs}
 use Rattle.timer_checks.proofs.check_peer_idle_timeout.Statement.{statement}
 use Rattle.timer_checks.proofs.check_peer_idle_timeout.Tie as tie

@@ -1,6 +1,5 @@
--- `timer_checks::idle` meets its contract, by what EXP gives.
--- Assumes nothing.
-use Rattle.timer_checks.specs.Checks.{idle}
+-- `timer_checks::idle` meets its contract, by whether EXP has expired.
+use Rattle.rules_timers.specs.Checks.{idle}
 use borrow.Author.Needs.{needs}
 use Rattle.timer_checks.proofs.idle.Statement.{statement}
 use Rattle.timer_checks.proofs.idle.Tie as tie

@@ -1,6 +1,5 @@
--- `timer_checks::idle_after` meets its contract: the branch goes by what `heard` ensures.
--- Assumes nothing.
-use Rattle.timer_checks.specs.Checks.{idleAfter}
+-- `timer_checks::idle_after` meets its contract, by what `heard` ensures.
+use Rattle.rules_timers.specs.Checks.{idleAfter}
 use borrow.Author.Needs.{needs}
 use Rattle.timer_checks.proofs.idle_after.Statement.{statement}
 use Rattle.timer_checks.proofs.idle_after.Tie as tie

@@ -1,5 +1,4 @@
 -- `timer_checks::with_timer` meets its contract, by the case of the timer.
--- Assumes nothing.
 use borrow.Author.Needs.{needs}
 use Rattle.timer_checks.proofs.with_timer.Statement.{statement}
 use Rattle.timer_checks.proofs.with_timer.Tie as tie

@@ -1,6 +1,5 @@
 -- `timers::judge_new` meets its contract: the tests, chained by `when`.
--- Assumes nothing.
-use Rattle.timers.specs.Timers.{judgeNew}
+use Rattle.rules_timers.specs.Timers.{judgeNew}
 use borrow.Author.Needs.{needs}
 use Rattle.timers.proofs.judge_new.Statement.{statement}
 use Rattle.timers.proofs.judge_new.Tie as tie

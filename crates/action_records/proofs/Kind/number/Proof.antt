@@ -1,5 +1,4 @@
 -- `action_records::Kind::number` meets its contract, kind by kind.
--- Assumes nothing.
 use mathlib.Core.Path.{refl}
 use native.Mathlib.Omega.{arith}
 use Rattle.rules.specs.Records.{code}

@@ -1,5 +1,4 @@
 -- `action_records::Record::write` meets its contract: what `copy_in` ensures of the 24 bytes.
--- Assumes nothing.
 use borrow.Author.Needs.{needs}
 use Rattle.action_records.proofs.Record.write.Statement.{statement}
 use Rattle.action_records.proofs.Record.write.Tie as tie

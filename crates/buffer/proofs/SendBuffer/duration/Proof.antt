@@ -1,5 +1,4 @@
--- `buffer::SendBuffer::duration` meets its contract: the time by the ring's two ends.
--- Assumes nothing.
+-- `buffer::SendBuffer::duration` meets its contract: the time is that of the ring's two ends.
 use mathlib.Core.Path.{sym, _∙_}
 use native.Mathlib.Omega.{arith}
 use borrow.Author.Needs.{needs}

@@ -1,5 +1,4 @@
--- `buffer::SendBuffer::new` meets its contract: each field as the settings have it.
--- Assumes nothing.
+-- `buffer::SendBuffer::new` meets its contract: field by field, from the settings.
 use borrow.Author.Needs.{needs}
 use Rattle.buffer.proofs.SendBuffer.new.Statement.{statement}
 use Rattle.buffer.proofs.SendBuffer.new.Tie as tie

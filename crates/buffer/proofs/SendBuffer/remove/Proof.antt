@@ -1,5 +1,4 @@
--- `buffer::SendBuffer::remove` meets its contract: its parts make `removed` whole.
--- Assumes nothing.
+-- `buffer::SendBuffer::remove` meets its contract: its parts make up `removed`.
 use borrow.Author.Needs.{needs}
 use Rattle.buffer.specs.Removal.Laws.{removed-is}
 use Rattle.buffer.proofs.SendBuffer.remove.Statement.{statement}

@@ -1,5 +1,4 @@
 -- `buffer::SendBuffer::wire_sizes` meets its contract: the loop has added up the first i packets.
--- Assumes nothing.
 use mathlib.Core.Path.{_≡_}
 use Prim.Native.Nat.{_-_, _*_, _≤_}
 use native.Mathlib.Omega.{arith}
@@ -18,7 +17,7 @@ Inv-loop c ring k at sum₀ i₀ sum i =
 abbrev μ-loop : tie.MeasureT-loop
 μ-loop c ring k at sum₀ i₀ sum i = k - i
 
--- the packet that is weighed is no longer than a packet
+-- the entry whose size is added is no longer than a packet
 short : (c : tie.After-struct-known2 Inv-loop μ-loop) → c .before .before .entry .result .len ≤ 1_456
 short c =
     let lp = c .before .before .before .before in

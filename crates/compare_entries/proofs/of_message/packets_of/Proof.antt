@@ -1,5 +1,4 @@
--- `compare_entries::of_message::packets_of` meets its contract: each case is its case of `packetsOf`.
--- Assumes nothing.
+-- `compare_entries::of_message::packets_of` meets its contract: each case is the same case of `packetsOf`.
 use Rattle.compare_entries.specs.MessageAnswers.{packetsOf}
 use borrow.Author.Needs.{needs}
 use Rattle.compare_entries.proofs.of_message.packets_of.Statement.{statement}

@@ -1,5 +1,4 @@
--- `compare_entries::of_message::piece_of` meets its contract: each case is its case of `pieceOf`.
--- Assumes nothing.
+-- `compare_entries::of_message::piece_of` meets its contract: each case is the same case of `pieceOf`.
 use Rattle.compare_entries.specs.MessageAnswers.{pieceOf}
 use borrow.Author.Needs.{needs}
 use Rattle.compare_entries.proofs.of_message.piece_of.Statement.{statement}
@@ -8,8 +7,8 @@ use Rattle.compare_entries.proofs.of_message.piece_of.Tie as tie
 enum-known-a : tie.Need-enum-known-a
 enum-known-a c = search needs
 
-bits-requires : tie.Need-bits-requires
-bits-requires c κs = search needs
+place-bits-requires : tie.Need-place-bits-requires
+place-bits-requires c κs = search needs
 
 enum-told : tie.Need-enum-told
 enum-told c = search needs
@@ -28,7 +27,7 @@ nothing-requires-2 c κs = search needs
 
 returns : tie.Need-returns
 unfolding pieceOf
-returns c = rw (c .bits .ensures .0, c .before .before .a .given .1)
+returns c = rw (c .place-bits .ensures .0, c .before .before .a .given .1)
 
 returns-2 : tie.Need-returns-2
 unfolding pieceOf
@@ -43,7 +42,7 @@ piece-of-spec =
     tie.close
     (tie.spec
     enum-known-a
-    bits-requires
+    place-bits-requires
     enum-told
     nothing-requires
     enum-known-a-2

@@ -1,5 +1,4 @@
--- `compare_entries::of_pacing::made` meets its contract: each case is its case of `pacingMade`.
--- Assumes nothing.
+-- `compare_entries::of_pacing::made` meets its contract: each case is the same case of `pacingMade`.
 use Rattle.compare_entries.specs.PacingAnswers.{pacingMade}
 use borrow.Author.Needs.{needs}
 use Rattle.compare_entries.proofs.of_pacing.made.Statement.{statement}

@@ -1,5 +1,4 @@
--- `compare_entries::of_pacing::paced` meets its contract: each case is its case of `pacingPaced`.
--- Assumes nothing.
+-- `compare_entries::of_pacing::paced` meets its contract: each case is the same case of `pacingPaced`.
 use Rattle.compare_entries.specs.PacingAnswers.{pacingPaced}
 use borrow.Author.Needs.{needs}
 use Rattle.compare_entries.proofs.of_pacing.paced.Statement.{statement}

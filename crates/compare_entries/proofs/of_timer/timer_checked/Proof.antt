@@ -1,5 +1,4 @@
--- `compare_entries::of_timer::timer_checked` meets its contract: each case is its case of `timerChecked`.
--- Assumes nothing.
+-- `compare_entries::of_timer::timer_checked` meets its contract: each case is the same case of `timerChecked`.
 use Rattle.compare_entries.specs.TimerAnswers.{timerChecked}
 use borrow.Author.Needs.{needs}
 use Rattle.compare_entries.proofs.of_timer.timer_checked.Statement.{statement}

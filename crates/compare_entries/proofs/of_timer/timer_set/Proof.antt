@@ -1,5 +1,4 @@
--- `compare_entries::of_timer::timer_set` meets its contract: each case is its case of `timerSet`.
--- Assumes nothing.
+-- `compare_entries::of_timer::timer_set` meets its contract: each case is the same case of `timerSet`.
 use Rattle.compare_entries.specs.TimerAnswers.{timerSet}
 use borrow.Author.Needs.{needs}
 use Rattle.compare_entries.proofs.of_timer.timer_set.Statement.{statement}

@@ -1,5 +1,4 @@
--- `host_structs::acks::ack_answer` meets its contract: each case is its case of `ackOf`.
--- Assumes nothing.
+-- `host_structs::acks::ack_answer` meets its contract: each case is the same case of `ackOf`.
 use Rattle.host_structs.specs.Replies.{ackOf}
 use borrow.Author.Needs.{needs}
 use Rattle.host_structs.proofs.acks.ack_answer.Statement.{statement}

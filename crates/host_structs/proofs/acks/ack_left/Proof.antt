@@ -1,5 +1,4 @@
 -- `host_structs::acks::ack_left` meets its contract: the test is that of `ackLeft`.
--- Assumes nothing.
 use Rattle.host_structs.specs.Replies.{ackLeft}
 use borrow.Author.Tests.{eq-eqb, ne-eqb}
 use borrow.Author.Needs.{needs}

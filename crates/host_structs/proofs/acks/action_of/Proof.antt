@@ -1,5 +1,4 @@
 -- `host_structs::acks::action_of` meets its contract: each case of the full number is its case of `answerBy`.
--- Assumes nothing.
 use borrow.Author.Needs.{needs}
 use Rattle.host_structs.proofs.acks.action_of.Statement.{statement}
 use Rattle.host_structs.proofs.acks.action_of.Tie as tie

@@ -1,5 +1,4 @@
 -- `host_structs::acks::full_of` meets its contract: the test is the case of `fullOf`.
--- Assumes nothing.
 use Rattle.host_structs.proofs.acks.full_of.Statement.{statement}
 use Rattle.host_structs.proofs.acks.full_of.Tie as tie
 

@@ -1,5 +1,4 @@
 -- `host_structs::acks::rtt_of` meets its contract: the test is the case of `rttOf`.
--- Assumes nothing.
 use Rattle.host_structs.proofs.acks.rtt_of.Statement.{statement}
 use Rattle.host_structs.proofs.acks.rtt_of.Tie as tie
 

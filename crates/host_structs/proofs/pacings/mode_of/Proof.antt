@@ -1,5 +1,4 @@
 -- `host_structs::pacings::mode_of` meets its contract: the tests are those of `modeOf`, in its order.
--- Assumes nothing.
 use Rattle.host_structs.specs.Senders.{modeOf}
 use borrow.Author.Tests.{eq-eqb, ne-eqb}
 use Rattle.host_structs.proofs.pacings.mode_of.Statement.{statement}

@@ -1,5 +1,4 @@
 -- `host_structs::pacings::next_of` meets its contract: the tests are those of `nextOf`, in its order.
--- Assumes nothing.
 use Rattle.host_structs.specs.Senders.{nextOf}
 use borrow.Author.Tests.{eq-eqb, ne-eqb}
 use Rattle.host_structs.proofs.pacings.next_of.Statement.{statement}

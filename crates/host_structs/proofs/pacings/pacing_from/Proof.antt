@@ -1,5 +1,4 @@
--- `host_structs::pacings::pacing_from` meets its contract: part by part, as `pacingFrom` has them.
--- Assumes nothing.
+-- `host_structs::pacings::pacing_from` meets its contract: field by field, as in `pacingFrom`.
 use borrow.Author.Needs.{needs}
 use Rattle.host_structs.proofs.pacings.pacing_from.Statement.{statement}
 use Rattle.host_structs.proofs.pacings.pacing_from.Tie as tie

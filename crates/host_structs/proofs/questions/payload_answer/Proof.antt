@@ -1,5 +1,4 @@
--- `host_structs::questions::payload_answer` meets its contract: each case is its case of `payloadOf`.
--- Assumes nothing.
+-- `host_structs::questions::payload_answer` meets its contract: each case is the same case of `payloadOf`.
 use Rattle.host_structs.specs.Replies.{payloadOf}
 use borrow.Author.Needs.{needs}
 use Rattle.host_structs.proofs.questions.payload_answer.Statement.{statement}

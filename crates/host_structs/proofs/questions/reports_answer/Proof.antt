@@ -1,5 +1,4 @@
--- `host_structs::questions::reports_answer` meets its contract: each case is its case of `reportsOf`.
--- Assumes nothing.
+-- `host_structs::questions::reports_answer` meets its contract: each case is the same case of `reportsOf`.
 use Rattle.host_structs.specs.Replies.{reportsOf}
 use borrow.Author.Needs.{needs}
 use Rattle.host_structs.proofs.questions.reports_answer.Statement.{statement}

@@ -1,5 +1,4 @@
 -- `host_structs::refused::refusal_of` meets its contract: each case has its number and values.
--- Assumes nothing.
 use Rattle.host_structs.specs.Replies.{refusedOf}
 use borrow.Author.Needs.{needs}
 use Rattle.host_structs.proofs.refused.refusal_of.Statement.{statement}

@@ -1,5 +1,4 @@
--- `host_structs::replies::message_answer` meets its contract: each case is its case of `messageOf`.
--- Assumes nothing.
+-- `host_structs::replies::message_answer` meets its contract: each case is the same case of `messageOf`.
 use Rattle.host_structs.specs.Replies.{messageOf}
 use borrow.Author.Needs.{needs}
 use Rattle.host_structs.proofs.replies.message_answer.Statement.{statement}

@@ -1,5 +1,4 @@
--- `host_structs::replies::nak_answer` meets its contract: each case is its case of `nakOf`.
--- Assumes nothing.
+-- `host_structs::replies::nak_answer` meets its contract: each case is the same case of `nakOf`.
 use Rattle.host_structs.specs.Replies.{nakOf}
 use borrow.Author.Needs.{needs}
 use Rattle.host_structs.proofs.replies.nak_answer.Statement.{statement}

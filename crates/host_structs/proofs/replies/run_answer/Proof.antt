@@ -1,5 +1,4 @@
--- `host_structs::replies::run_answer` meets its contract: each case is its case of `runOf`.
--- Assumes nothing.
+-- `host_structs::replies::run_answer` meets its contract: each case is the same case of `runOf`.
 use Rattle.host_structs.specs.Replies.{runOf}
 use borrow.Author.Needs.{needs}
 use Rattle.host_structs.proofs.replies.run_answer.Statement.{statement}

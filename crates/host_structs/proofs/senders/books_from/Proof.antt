@@ -1,5 +1,4 @@
--- `host_structs::senders::books_from` meets its contract: part by part, as `booksFrom` has them.
--- Assumes nothing.
+-- `host_structs::senders::books_from` meets its contract: field by field, as in `booksFrom`.
 use borrow.Author.Needs.{needs}
 use Rattle.host_structs.proofs.senders.books_from.Statement.{statement}
 use Rattle.host_structs.proofs.senders.books_from.Tie as tie

@@ -1,5 +1,4 @@
--- `host_structs::senders::flat_from` meets its contract: part by part, as `flatFrom` has them.
--- Assumes nothing.
+-- `host_structs::senders::flat_from` meets its contract: field by field, as in `flatFrom`.
 use Rattle.host_structs.specs.Senders.{flatFrom}
 use borrow.Author.Needs.{needs}
 use Rattle.host_structs.proofs.senders.flat_from.Statement.{statement}

@@ -1,5 +1,4 @@
 -- `host_structs::senders::flushed_of` meets its contract: the tests are those of `flushedOf`, in its order.
--- Assumes nothing.
 use Rattle.host_structs.specs.Senders.{flushedOf}
 use borrow.Author.Tests.{eq-eqb, ne-eqb}
 use Rattle.host_structs.proofs.senders.flushed_of.Statement.{statement}

@@ -1,5 +1,4 @@
--- `host_structs::senders::held_from` meets its contract: each case is its case of `heldFrom`.
--- Assumes nothing.
+-- `host_structs::senders::held_from` meets its contract: each case is the same case of `heldFrom`.
 use borrow.Author.Needs.{needs}
 use Rattle.host_structs.proofs.senders.held_from.Statement.{statement}
 use Rattle.host_structs.proofs.senders.held_from.Tie as tie

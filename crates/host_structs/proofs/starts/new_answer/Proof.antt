@@ -1,5 +1,4 @@
--- `host_structs::starts::new_answer` meets its contract: each case is its case of `newOf`.
--- Assumes nothing.
+-- `host_structs::starts::new_answer` meets its contract: each case is the same case of `newOf`.
 use Rattle.host_structs.specs.Replies.{newOf}
 use borrow.Author.Needs.{needs}
 use Rattle.host_structs.proofs.starts.new_answer.Statement.{statement}

@@ -1,6 +1,5 @@
--- `loss_reader::LossReader::new` meets its contract: a walk of its MIR, by hand. The struct is made of the words and 0 in the result's local; what the
--- words own is had twice, once at exit and once inside the struct.
--- Assumes nothing.
+-- `loss_reader::LossReader::new` meets its contract: a walk through its MIR, by hand. The struct is built from the
+-- words and 0 in the result's local; what the words own is used twice, at exit and inside the struct.
 use mathlib.Core.Path.{refl}
 use Prim.Native.Nat.{ℕ}
 use mathlib.Core.List.{List, [], _∷_}
@@ -39,7 +38,7 @@ use Rattle.loss_reader.specs.Reading.{start}
 use Rattle.loss_reader.specs.declared.LossReader.{LossReader}
 use Rattle.loss_reader.proofs.LossReader as T
 use Rattle.loss_reader.proofs.LossReader.Laws as T′
-use Rattle.loss_reader.proofs.LossReader.new.Key.{name as #reader·new}
+use Rattle.loss_reader.proofs.LossReader.new.Key.{name as #loss-reader·new}
 use Rattle.loss_reader.proofs.LossReader.new as new
 use Rattle.loss_reader.proofs.LossReader.new.Statement as stated
 use Rattle.loss_reader.proofs.LossReader.new.Code as code
@@ -96,5 +95,5 @@ pub new-spec : {M : Type 1} → stated.statement M
 unfolding code.routine tablesOf
 new-spec 𝓤 H 𝓜 𝓖 𝓡 =
     entered 𝓤 H (tripleOf 𝓤 H (𝓖 .A) new.signature (new.spec 𝓤 H (𝓖 .A) (𝓜 .mem) (𝓡 .run)))
-    (tables 𝓤 H 𝓜 𝓡 code.env .C) (tables 𝓤 H 𝓜 𝓡 code.env .Λ) #reader·new code.function (code.unfolded 𝓤 H 𝓜 𝓡)
+    (tables 𝓤 H 𝓜 𝓡 code.env .C) (tables 𝓤 H 𝓜 𝓡 code.env .Λ) #loss-reader·new code.function (code.unfolded 𝓤 H 𝓜 𝓡)
     (new-meets 𝓤 H (𝓖 .A) (givenOf 𝓤 H 𝓜 𝓖) (𝓜 .mem) (𝓡 .run) (tablesOf 𝓤 H 𝓜 (tables 𝓤 H 𝓜 𝓡 code.env)))

@@ -1,7 +1,7 @@
--- `loss_reader::LossReader::next` meets its contract: a walk of its MIR, by hand. The borrow of the struct is opened; `loss_words::step_at` is called on the
--- words and the place, and `Step::width` on its answer, of which the walk knows their contracts alone; the sum is stored as the place, and the
--- borrow is closed at the struct that has moved. What the words own is had twice, once for the call.
--- Assumes nothing.
+-- `loss_reader::LossReader::next` meets its contract: a walk through its MIR, by hand. The borrow of the struct is
+-- opened; `loss_words::step_at` is called on the words and the place, and `Step::width` on its answer; the walk uses
+-- only their contracts. The sum is stored as the place, and the borrow is closed at the moved struct. What the words
+-- own is used twice, once for the call.
 use mathlib.Core.Path.{_≡_, refl, ap, _∙_}
 use Prim.Native.Nat.{ℕ, _<_, _^_, _+_}
 use mathlib.Core.List.{List, [], _∷_}
@@ -52,11 +52,11 @@ use Rattle.loss_words.proofs.Step as S
 use Rattle.loss_words.proofs.Step.Laws as S′
 use Rattle.loss_words.proofs.step_at as step
 use Rattle.loss_words.proofs.step_at.Symbol as step-def
-use Rattle.loss_words.proofs.step_at.Symbol.{name as #words·step-at}
+use Rattle.loss_words.proofs.step_at.Symbol.{name as #loss-words·step-at}
 use Rattle.loss_words.proofs.step_at.Met as step-thm
 use Rattle.loss_words.proofs.Step.width as width
 use Rattle.loss_words.proofs.Step.width.Symbol as width-def
-use Rattle.loss_words.proofs.Step.width.Symbol.{name as #words·width}
+use Rattle.loss_words.proofs.Step.width.Symbol.{name as #loss-words·width}
 use Rattle.loss_words.proofs.Step.width.Met as width-thm
 use Rattle.loss_reader.specs.Reading.{here, moved}
 use Rattle.loss_reader.specs.Reading.Laws.{moved-fits}
@@ -64,7 +64,7 @@ use Rattle.loss_reader.specs.declared.LossReader.{LossReader}
 use Rattle.loss_reader.proofs.Width.{Width, to-width, goes-width, width-said}
 use Rattle.loss_reader.proofs.LossReader as T
 use Rattle.loss_reader.proofs.LossReader.Laws as T′
-use Rattle.loss_reader.proofs.LossReader.next.Key.{name as #reader·next}
+use Rattle.loss_reader.proofs.LossReader.next.Key.{name as #loss-reader·next}
 use Rattle.loss_reader.proofs.LossReader.next as next
 use Rattle.loss_reader.proofs.LossReader.next.Statement as stated
 use Rattle.loss_reader.proofs.LossReader.next.Code as code
@@ -131,7 +131,7 @@ module _ {M : Type 1} (𝓤 : URA M) (H : Heap 𝓤) (A : Atoms 𝓤) (W : Given
   asked : ent 𝓤 (onEntry 𝓤 H A step.signature (κ′, tt) (q′, tt) (h .words, (h .at, tt)) passed) (StepAt 𝓤 H A at-mem run .pre to-step)
   asked = qed W ((‵ (flft κ′ q′) ⊛ ‵ ftrue) ∷ ‵ (owns (ShrSlice (named 0) κ′ u32 ∷ usize ∷ []) (h .words, (h .at, tt)) passed) ∷ []) ∵ join ! $ frame ! $ done !
 
-  -- what the struct owns gives what the callee asks, and is kept
+  -- what the struct owns gives what the callee requires, and is kept
   goes-step : h .at < 2 ^ 64 → ent 𝓤 (⋆ 𝓤 H A (‵ Own ∷ (‵ (flft κ′ q′) ⊛ ‵ ftrue) ∷ [])) (sep 𝓤 (StepAt 𝓤 H A at-mem run .pre to-step) (sem 𝓤 H A Own))
   goes-step fits =
       qed W (‵ Own ∷ (‵ (flft κ′ q′) ⊛ ‵ ftrue) ∷ []) ∵
@@ -171,7 +171,7 @@ module _ {M : Type 1} (𝓤 : URA M) (H : Heap 𝓤) (A : Atoms 𝓤) (W : Given
       move ! (2 ∷ 3 ∷ []) $ join ! $ frame ! $ feqI ! (List Val) (vptr b o ∷ []) (vptr b o ∷ []) refl $ fjoin3 ! $ nothing ! $ move ! (1 ∷ 0 ∷ []) $ fjoin ! $
       owned ! S.the-row (Is S.the-row) (EL.makes S.the-type S′.the-plain 𝓤 H A) r (u ∷ []) is $ move ! (1 ∷ 0 ∷ []) $ done !
 
-  module _ (C : Calls 𝓤 H) (Λ : Loops 𝓤 H) (fm : FmC 𝓤 H (W .laws) C) (known-step : Triple 𝓤 (C #words·step-at) (StepAt 𝓤 H A at-mem run)) (known-width : Triple 𝓤 (C #words·width) (Width 𝓤 H A at-mem run)) where
+  module _ (C : Calls 𝓤 H) (Λ : Loops 𝓤 H) (fm : FmC 𝓤 H (W .laws) C) (known-step : Triple 𝓤 (C #loss-words·step-at) (StepAt 𝓤 H A at-mem run)) (known-width : Triple 𝓤 (C #loss-words·width) (Width 𝓤 H A at-mem run)) where
     walk : ent 𝓤 (onEntry 𝓤 H A next.signature (κ, (κ′, tt)) (q, (q′, tt)) x vals) (WpFn 𝓤 H C Λ code.function (vptr b o ∷ []) Post)
     walk =
         qed W ((‵ (flft κ q) ⊛ ‵ (flft κ′ q′) ⊛ ‵ ftrue) ∷ ‵ (owns (MutRef (named 0) κ (B κ′) ∷ []) x vals) ∷ []) ∵ enter ! C Λ code.function (vptr b o ∷ []) _ $
@@ -180,14 +180,16 @@ module _ {M : Type 1} (𝓤 : URA M) (H : Heap 𝓤) (A : Atoms 𝓤) (W : Given
         move ! (15 ∷ []) $ fsplit ! $ fsplit3 ! $ drop ! $ move ! (17 ∷ []) $ split ! $ move ! (2 ∷ 3 ∷ 0 ∷ []) $
         opens ! tt (B κ′) {h = h} b o (λ vs. spelt ! (B κ′) (Is (B κ′)) (shows 𝓤 H A (B κ′)) (LL.vals D L) (LL.tells D L) fullShare h vs b o $
         use1 W (‵ (fat fullShare (T′.mir erased) b o mach)) (W .laws .raw-at fullShare (T′.mir erased) b o mach) $ move ! (1 ∷ []) $ peeks ! (B κ′) (Is (B κ′)) (shows 𝓤 H A (B κ′)) h (mach ∷ []) (λ g. move ! (1 ∷ 0 ∷ []) $
-        -- [the struct's cell; what the struct owns; the open borrow; obs; auth; 'a's token; …; _6; …; _5; …; _4; …; _3; …; _2; …; _1; …; room for _0; …]
+        -- [the struct's cell; what the struct owns; the open borrow; obs; auth; 'a's token; …; _6; …; _5; …; _4; …; _3;
+        -- …; _2; …; _1; …; room for _0; …]
         assigns ! (of-opd ! (load ! (from ! (hop ! (look ! 17 refl) (fld ! refl (stop !)))) (look-in ! 0 (sub ! 1 refl (whole !))))) (from ! (stop !)) (init ! 15 refl (tt, record { fits = at-fits g })) $
         assigns ! (of-opd ! (load ! (from ! (hop ! (look ! 17 refl) (fld ! refl (stop !)))) (look-in ! 0 (sub ! 0 refl (whole !))))) (from ! (stop !)) (init ! 11 refl (tt, (tt, (record { fits = room g .0 }, tt)))) $
         move ! (1 ∷ 5 ∷ []) $ use2 W (raw (StepAt 𝓤 H A at-mem run .pre to-step) ⊛ ‵ Own) (goes-step (at-fits g)) $ split ! $
         calls-at ! fm (StepAt 𝓤 H A at-mem run) known-step to-step (and-then ! (load ! (from ! (stop !)) (look ! 11 refl)) (and-then ! (load ! (from ! (stop !)) (look ! 15 refl)) (no-more !))) (λ u.
         use1 W (later (some (λ (r : Step). ((‵ (flft κ′ q′) ⊛ ‵ ftrue) ⊛ ‵ (S.the-row .own r (u ∷ []))) ⊛ raw (ensured 𝓤 H A step.ended (step.clauses 𝓤 H A at-mem run) (κ′, tt) (h .words, (h .at, tt)) tt r)))) (id⊢ 𝓤 _) $ await ! tt $ pick ! (λ r.
         split ! $ move ! (1 ∷ []) $ use1 W (raw (fact 𝓤 (r ≡ here h))) (step-said r) $ heard ! (r ≡ here h) (λ e. split ! $ move ! (1 ∷ []) $
-        -- [what the step owns; 'a's token; what the struct owns; the struct's cell; the open borrow; obs; auth; …; _6; …; room for _0; …]
+        -- [what the step owns; 'a's token; what the struct owns; the struct's cell; the open borrow; obs; auth; …; _6;
+        -- …; room for _0; …]
         peeks ! S.the-row (Is S.the-row) (shows 𝓤 H A S.the-row) r (u ∷ []) (λ is.
         land ! (from ! (stop !)) (init ! 14 refl (EL.lawful S.the-type S′.the-laws 𝓤 H A W tt .typed r _ is .0)) $
         use1 W (raw (Width 𝓤 H A at-mem run .pre (to-width 𝓤 H A W at-mem run r u))) (goes-width 𝓤 H A W at-mem run r u) $
@@ -195,7 +197,8 @@ module _ {M : Type 1} (𝓤 : URA M) (H : Heap 𝓤) (A : Atoms 𝓤) (W : Given
         use1 W (later (some (λ (n : ℕ). (‵ ftrue ⊛ ‵ (usize .own n (w ∷ []))) ⊛ raw (ensured 𝓤 H A width.ended (width.clauses 𝓤 H A at-mem run) tt (r, tt) tt n)))) (id⊢ 𝓤 _) $ await ! tt $ pick ! (λ n.
         split ! $ move ! (1 ∷ []) $ use1 W (raw (fact 𝓤 (n ≡ widthOf r))) (width-said 𝓤 H A W at-mem run r n) $ heard ! (n ≡ widthOf r) (λ f. split ! $ drop ! $
         peeks ! usize (Is usize) (shows 𝓤 H A usize) n (w ∷ []) (λ num. drop ! $
-        -- ['a's token; what the struct owns; the struct's cell; the open borrow; obs; auth; …; _6; …; _5; …; _4; …; _3; …; _2; …; _1; …; room for _0; …]
+        -- ['a's token; what the struct owns; the struct's cell; the open borrow; obs; auth; …; _6; …; _5; …; _4; …; _3;
+        -- …; _2; …; _1; …; room for _0; …]
         land ! (from ! (stop !)) (init ! 9 refl (uint-lawful 𝓤 H A W w64 .typed n _ num .0)) $ rewrite ! 9 (λ (k : Val). ‵ (fat fullShare (tyInt w64) l₅ 0 k)) (ap only (num .0)) refl $
         assigns ! (bin ! (load ! (from ! (stop !)) (look ! 15 refl)) (load ! (from ! (stop !)) (look ! 9 refl)) (record { fits = sum-fits g r n e f })) (from ! (stop !)) (init ! 7 refl (tt, record { fits = sum-fits g r n e f })) $
         assigns ! (of-opd ! (load ! (from ! (stop !)) (look ! 7 refl))) (from ! (hop ! (look ! 17 refl) (fld ! refl (stop !)))) (store-in ! 2 (sub ! 1 refl (whole !)) (tt, record { fits = sum-fits g r n e f })) $
@@ -208,13 +211,13 @@ module _ {M : Type 1} (𝓤 : URA M) (H : Heap 𝓤) (A : Atoms 𝓤) (W : Given
         keep ! (0 ∷ 1 ∷ 2 ∷ 3 ∷ []) $ by ! (exits r u n is e f))))))))))))))))))
 
 module _ {M : Type 1} (𝓤 : URA M) (H : Heap 𝓤) (A : Atoms 𝓤) (W : Given 𝓤 H A) (mem : Memory → SProp 𝓤) (run : Routine → Fun 𝓤) where
-  next-walks : (C : Calls 𝓤 H) (Λ : Loops 𝓤 H) → FmC 𝓤 H (W .laws) C → Triple 𝓤 (C #words·step-at) (StepAt 𝓤 H A mem run) → Triple 𝓤 (C #words·width) (Width 𝓤 H A mem run)
+  next-walks : (C : Calls 𝓤 H) (Λ : Loops 𝓤 H) → FmC 𝓤 H (W .laws) C → Triple 𝓤 (C #loss-words·step-at) (StepAt 𝓤 H A mem run) → Triple 𝓤 (C #loss-words·width) (Width 𝓤 H A mem run)
       → Walks 𝓤 H A next.ended stayed (WpFn 𝓤 H C Λ code.function) (next.clauses 𝓤 H A mem run)
   next-walks C Λ fm known-step known-width = walked 𝓤 H A next.ended stayed (next.clauses 𝓤 H A mem run) (WpFn 𝓤 H C Λ code.function) (λ κs. (ptr-vals, tt)) (λ κs. (mut-tells (named 0) (κs .0) (B (κs .1 .0)), tt))
       (λ κs qs bounds a g are. via 𝓤 _ (fst∗ 𝓤 _ (emp 𝓤)) (walk 𝓤 H A W mem run (κs .0) (κs .1 .0) (qs .0) (qs .1 .0) bounds (a .0 .ptr .0) (a .0 .ptr .1) (a .0 .name) (a .0 .now) C Λ fm known-step known-width))
 
 next-meets : {M : Type 1} (𝓤 : URA M) (H : Heap 𝓤) (A : Atoms 𝓤) → Given 𝓤 H A → (mem : Memory → SProp 𝓤) (run : Routine → Fun 𝓤) (𝓣 : Tables 𝓤 H)
-    → Triple 𝓤 (𝓣 .C #words·step-at) (StepAt 𝓤 H A mem run) → Triple 𝓤 (𝓣 .C #words·width) (Width 𝓤 H A mem run)
+    → Triple 𝓤 (𝓣 .C #loss-words·step-at) (StepAt 𝓤 H A mem run) → Triple 𝓤 (𝓣 .C #loss-words·width) (Width 𝓤 H A mem run)
     → Meets 𝓤 H A next.signature (WpFn 𝓤 H (𝓣 .C) (𝓣 .Λ) code.function) (next.spec 𝓤 H A mem run)
 next-meets 𝓤 H A W mem run 𝓣 known-step known-width = walk-meets 𝓤 H A next.ended stayed W (goes-ref 𝓤 H A W 2 0 tt behind, tt) (next.clauses 𝓤 H A mem run) (WpFn 𝓤 H (𝓣 .C) (𝓣 .Λ) code.function) (WpFn-mono 𝓤 H (W .laws) 𝓣 code.function)
     (next-walks 𝓤 H A W mem run (𝓣 .C) (𝓣 .Λ) (fmOf 𝓤 H (W .laws) 𝓣) known-step known-width)
@@ -223,7 +226,7 @@ pub next-spec : {M : Type 1} → stated.statement M
 unfolding code.routine tablesOf
 next-spec 𝓤 H 𝓜 𝓖 𝓡 =
     entered 𝓤 H (tripleOf 𝓤 H (𝓖 .A) next.signature (next.spec 𝓤 H (𝓖 .A) (𝓜 .mem) (𝓡 .run)))
-    (tables 𝓤 H 𝓜 𝓡 code.env .C) (tables 𝓤 H 𝓜 𝓡 code.env .Λ) #reader·next code.function (code.unfolded 𝓤 H 𝓜 𝓡)
+    (tables 𝓤 H 𝓜 𝓡 code.env .C) (tables 𝓤 H 𝓜 𝓡 code.env .Λ) #loss-reader·next code.function (code.unfolded 𝓤 H 𝓜 𝓡)
     (next-meets 𝓤 H (𝓖 .A) (givenOf 𝓤 H 𝓜 𝓖) (𝓜 .mem) (𝓡 .run) (tablesOf 𝓤 H 𝓜 (tables 𝓤 H 𝓜 𝓡 code.env))
-    (cited 𝓤 H (StepAt 𝓤 H (𝓖 .A) (𝓜 .mem) (𝓡 .run)) 𝓜 𝓡 code.env #words·step-at step-def.routine code.calls-words·step-at (step-thm.met 𝓤 H 𝓜 𝓖 𝓡))
-    (cited 𝓤 H (Width 𝓤 H (𝓖 .A) (𝓜 .mem) (𝓡 .run)) 𝓜 𝓡 code.env #words·width width-def.routine code.calls-words·Step·width (width-thm.met 𝓤 H 𝓜 𝓖 𝓡)))
+    (cited 𝓤 H (StepAt 𝓤 H (𝓖 .A) (𝓜 .mem) (𝓡 .run)) 𝓜 𝓡 code.env #loss-words·step-at step-def.routine code.calls-loss-words·step-at (step-thm.met 𝓤 H 𝓜 𝓖 𝓡))
+    (cited 𝓤 H (Width 𝓤 H (𝓖 .A) (𝓜 .mem) (𝓡 .run)) 𝓜 𝓡 code.env #loss-words·width width-def.routine code.calls-loss-words·Step·width (width-thm.met 𝓤 H 𝓜 𝓖 𝓡)))

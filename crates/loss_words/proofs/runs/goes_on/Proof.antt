@@ -1,5 +1,4 @@
--- `loss_words::runs::goes_on` meets its contract: each way through its tests gives what the definition computes.
--- Assumes nothing.
+-- `loss_words::runs::goes_on` meets its contract: each path through its tests gives what the definition computes.
 use borrow.Author.Tests.{lt-ltb, le-ltb, eq-eqb, ne-eqb}
 use borrow.Author.Needs.{needs}
 use Rattle.loss_words.proofs.runs.goes_on.Statement.{statement}

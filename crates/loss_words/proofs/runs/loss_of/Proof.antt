@@ -1,11 +1,10 @@
--- `loss_words::runs::loss_of` meets its contract: each way through its tests is one law of `Runs.Laws`.
--- Assumes nothing.
+-- `loss_words::runs::loss_of` meets its contract: each path through its tests is one law of `Runs.Laws`.
 use native.Mathlib.Omega.{arith}
 use mathlib.Core.Path.{_≡_, ap, _∙_}
 use lib.Dec.{lit<}
 use Prim.Native.Nat.{ℕ}
-use Rattle.numbers.specs.Modular.{seqs, plus, dist}
-use Rattle.numbers.specs.Modular.Laws.{dist-below}
+use Rattle.rules_numbers.specs.Modular.{seqs, plus, dist}
+use Rattle.rules_numbers.specs.Modular.Laws.{dist-below}
 use Rattle.loss_words.specs.Runs.Laws.{reaches-added, reaches-ignored, reaches-dropped}
 use Prim.Native.Nat.{ℕ}
 use borrow.Author.Needs.{needs}

@@ -1,6 +1,5 @@
--- `loss_words::runs::push_run` meets its contract: where the last run goes on, its end is replaced (`push-on`), else three words are stored behind it
--- (`push-new`).
--- Assumes nothing.
+-- `loss_words::runs::push_run` meets its contract: if the last run continues, its end is replaced (`push-on`);
+-- otherwise three words are stored behind it (`push-new`).
 use native.Mathlib.Omega.{arith}
 use mathlib.Core.Path.{sym, _∙_}
 use lib.ListN.{length-set}

@@ -1,9 +1,9 @@
--- `loss_words::runs::write_item` meets its contract: each turn writes one run of the numbers that are left (`Writing`), in at most three turns.
--- Assumes nothing.
+-- `loss_words::runs::write_item` meets its contract: each turn writes one run of the numbers left (`Writing`), in at
+-- most three turns.
 use native.Mathlib.Omega.{arith}
 use lib.Dec.{lit<}
-use Rattle.numbers.specs.Modular.{seqs}
-use Rattle.numbers.specs.Modular.Laws.{dist-below}
+use Rattle.rules_numbers.specs.Modular.{seqs}
+use Rattle.rules_numbers.specs.Modular.Laws.{dist-below}
 use Rattle.loss_words.specs.Runs.{stretchAt}
 use Rattle.loss_words.proofs.Writing.{Writing, item-is, writing-none, writing-step, writing-all, writing-end}
 use Prim.Native.Nat.{_+_}

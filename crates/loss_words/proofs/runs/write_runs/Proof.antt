@@ -1,5 +1,5 @@
--- `loss_words::runs::write_runs` meets its contract: each turn reads an item of the report and writes its runs (`Answering`).
--- Assumes nothing.
+-- `loss_words::runs::write_runs` meets its contract: each turn reads an item of the report and writes its runs
+-- (`Answering`).
 use native.Mathlib.Omega.{arith}
 use Prim.Native.Nat.{_+_, _-_, _<_, _≤_}
 use lib.ListN.{length}

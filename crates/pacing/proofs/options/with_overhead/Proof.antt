@@ -1,5 +1,4 @@
 -- `pacing::options::with_overhead` meets its contract: the product is at most 2^42 × 10,100, which fits.
--- Assumes nothing.
 use Prim.Native.Nat.{_+_, _*_, _^_, _≤_}
 use native.Mathlib.Nat.{mul-le-mul}
 use native.Mathlib.Omega.{arith}

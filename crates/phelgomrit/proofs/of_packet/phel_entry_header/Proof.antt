@@ -1,5 +1,4 @@
--- `phelgomrit::of_packet::phel_entry_header` meets its contract: what its calls ensure, one put into the other.
--- Assumes nothing.
+-- `phelgomrit::of_packet::phel_entry_header` meets its contract: it composes the contracts of its calls.
 use borrow.Author.Needs.{needs}
 use Rattle.phelgomrit.proofs.of_packet.phel_entry_header.Statement.{statement}
 use Rattle.phelgomrit.proofs.of_packet.phel_entry_header.Tie as tie

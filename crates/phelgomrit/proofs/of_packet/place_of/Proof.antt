@@ -1,5 +1,4 @@
 -- `phelgomrit::of_packet::place_of` meets its contract: the tests are those of `placeOf`, in its order.
--- Assumes nothing.
 use borrow.Author.Tests.{eq-eqb, ne-eqb}
 use Rattle.phelgomrit.specs.Packet.{placeOf}
 use Rattle.phelgomrit.proofs.of_packet.place_of.Statement.{statement}

@@ -1,5 +1,4 @@
--- `phelgomrit::of_timers::phel_entry_timers_check_full_ack` meets its contract: what its calls ensure, one put into the other.
--- Assumes nothing.
+-- `phelgomrit::of_timers::phel_entry_timers_check_full_ack` meets its contract: it composes the contracts of its calls.
 use borrow.Author.Needs.{needs}
 use Rattle.phelgomrit.proofs.of_timers.phel_entry_timers_check_full_ack.Statement.{statement}
 use Rattle.phelgomrit.proofs.of_timers.phel_entry_timers_check_full_ack.Tie as tie

@@ -1,5 +1,5 @@
--- `phelgomrit::of_timers::phel_entry_timers_check_peer_idle_timeout` meets its contract: what its calls ensure, one put into the other.
--- Assumes nothing.
+-- `phelgomrit::of_timers::phel_entry_timers_check_peer_idle_timeout` meets its contract: it composes the contracts of
+-- its calls.
 use borrow.Author.Needs.{needs}
 use Rattle.phelgomrit.proofs.of_timers.phel_entry_timers_check_peer_idle_timeout.Statement.{
   statement,

@@ -1,5 +1,4 @@
--- `ring::Ring::entry` meets its contract: what `get` ensures at the slot that `slot_of` gives.
--- Assumes nothing.
+-- `ring::Ring::entry` meets its contract: what `get` ensures, at the slot from `slot_of`.
 use borrow.Author.Needs.{needs}
 use Rattle.ring.proofs.Ring.entry.Statement.{statement}
 use Rattle.ring.proofs.Ring.entry.Tie as tie

@@ -1,5 +1,4 @@
 -- `ring::Ring::placed` meets its contract: the four tests; the product fits, since the capacity was tested first.
--- Assumes nothing.
 use borrow.Author.Tests.{lt-leb, le-leb}
 use borrow.Author.Needs.{needs}
 use Rattle.ring.proofs.Ring.placed.Statement.{statement}

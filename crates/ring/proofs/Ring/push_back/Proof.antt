@@ -1,5 +1,4 @@
--- `ring::Ring::push_back` meets its contract: what `put` ensures at the slot behind the last.
--- Assumes nothing.
+-- `ring::Ring::push_back` meets its contract: what `put` ensures, at the slot after the last.
 use mathlib.Core.Path.{refl}
 use borrow.Author.Needs.{needs}
 use Rattle.ring.proofs.Ring.push_back.Statement.{statement}

@@ -1,5 +1,4 @@
 -- `ring::Ring::remove_front` meets its contract: the front is where packet `k` was.
--- Assumes nothing.
 use borrow.Author.Needs.{needs}
 use Rattle.ring.proofs.Ring.remove_front.Statement.{statement}
 use Rattle.ring.proofs.Ring.remove_front.Tie as tie

@@ -1,5 +1,4 @@
--- `ring::Ring::set_entry` meets its contract: what `put` ensures at the slot that `slot_of` gives.
--- Assumes nothing.
+-- `ring::Ring::set_entry` meets its contract: what `put` ensures, at the slot from `slot_of`.
 use borrow.Author.Needs.{needs}
 use Rattle.ring.proofs.Ring.set_entry.Statement.{statement}
 use Rattle.ring.proofs.Ring.set_entry.Tie as tie

@@ -1,5 +1,4 @@
 -- `ring::Ring::slot_of` meets its contract: what `wrap` ensures.
--- Assumes nothing.
 use Rattle.ring.specs.Ring.{slotOf}
 use borrow.Author.Needs.{needs}
 use Rattle.ring.proofs.Ring.slot_of.Statement.{statement}

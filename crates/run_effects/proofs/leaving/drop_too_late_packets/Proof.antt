@@ -1,5 +1,4 @@
 -- `run_effects::leaving::drop_too_late_packets` meets its contract: the record, and removal from the front.
--- Assumes nothing.
 use native.Mathlib.Omega.{arith}
 use Rattle.run_effects.specs.Sending.Rules.{drop-acts}
 use borrow.Author.Needs.{needs}

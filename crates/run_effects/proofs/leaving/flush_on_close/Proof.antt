@@ -1,5 +1,4 @@
--- `run_effects::leaving::flush_on_close` meets its contract: its parts make the flush whole.
--- Assumes nothing.
+-- `run_effects::leaving::flush_on_close` meets its contract: its parts make up the flush.
 use native.Mathlib.Omega.{arith}
 use Rattle.buffer.specs.State.Facts.{stands-facts, stands-entry, stands-covers}
 use Rattle.run_effects.specs.Sending.Rules.{flush-acts}

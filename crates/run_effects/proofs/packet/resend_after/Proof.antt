@@ -1,5 +1,4 @@
 -- `run_effects::packet::resend_after` meets its contract: the first sending, or a later one.
--- Assumes nothing.
 use mathlib.Core.Path.{_∙_}
 use native.Mathlib.Omega.{arith}
 use borrow.Author.Needs.{needs}

@@ -1,5 +1,4 @@
--- `run_effects::packet::send_packet` meets its contract: the entry is read, written anew and recorded.
--- Assumes nothing.
+-- `run_effects::packet::send_packet` meets its contract: the entry is read, overwritten and recorded.
 use native.Mathlib.Omega.{arith}
 use borrow.Author.Needs.{needs}
 use Rattle.run_effects.specs.Sending.Laws.{sent-from}

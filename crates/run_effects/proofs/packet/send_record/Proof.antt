@@ -1,5 +1,4 @@
--- `run_effects::packet::send_record` meets its contract: the flags by the entry's words.
--- Assumes nothing.
+-- `run_effects::packet::send_record` meets its contract: the flags come from the entry's words.
 use borrow.Author.Needs.{needs}
 use Rattle.run_effects.specs.Sending.Laws.{recorded}
 use Rattle.run_effects.proofs.packet.send_record.Statement.{statement}

@@ -1,10 +1,9 @@
--- `run_effects::packet::stamped` meets its contract: by what is added to now.
--- Assumes nothing.
+-- `run_effects::packet::stamped` meets its contract, from the time to the resend.
 use Prim.Native.Nat.{_-_, _^_, _≤_}
 use native.Mathlib.Omega.{arith}
 use borrow.Author.Needs.{needs}
 use Rattle.run_effects.specs.Sending.{stamped}
-use Rattle.run_effects.specs.Sending.Laws.{wait-small}
+use Rattle.rules_theorems.specs.Laws.Run.{wait-small}
 use Rattle.run_effects.proofs.packet.stamped.Statement.{statement}
 use Rattle.run_effects.proofs.packet.stamped.Tie as tie
 

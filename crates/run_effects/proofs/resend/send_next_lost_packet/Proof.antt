@@ -1,5 +1,5 @@
--- `run_effects::resend::send_next_lost_packet` meets its contract: the number nearest the front goes from the list, and its packet is sent.
--- Assumes nothing.
+-- `run_effects::resend::send_next_lost_packet` meets its contract: the number nearest the front leaves the list, and
+-- its packet is sent.
 use Rattle.buffer.specs.State.Facts.{stands-facts}
 use Rattle.run_effects.specs.Sending.Rules.{losing-sendable, loss-acts}
 use borrow.Author.Needs.{needs}

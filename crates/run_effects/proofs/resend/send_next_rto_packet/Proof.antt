@@ -1,5 +1,4 @@
--- `run_effects::resend::send_next_rto_packet` meets its contract: a sending of packet i.
--- Assumes nothing.
+-- `run_effects::resend::send_next_rto_packet` meets its contract: packet i is sent.
 use mathlib.Core.Path.{refl}
 use Rattle.run_effects.specs.Sending.Laws.{acts-as}
 use Rattle.run_effects.specs.Sending.Rules.{sendable}

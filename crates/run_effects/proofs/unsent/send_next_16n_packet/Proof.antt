@@ -1,5 +1,4 @@
--- `run_effects::unsent::send_next_16n_packet` meets its contract: by the test of the number.
--- Assumes nothing.
+-- `run_effects::unsent::send_next_16n_packet` meets its contract: by the test of its number.
 use mathlib.Core.List.{[]}
 use borrow.Author.Needs.{needs}
 use Rattle.run_effects.specs.Sending.Unsent.{sixteen-sends, sixteen-idle}

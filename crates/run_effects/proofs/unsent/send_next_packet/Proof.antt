@@ -1,5 +1,4 @@
--- `run_effects::unsent::send_next_packet` meets its contract: a sending of the next unsent.
--- Assumes nothing.
+-- `run_effects::unsent::send_next_packet` meets its contract: the next unsent is sent.
 use mathlib.Core.Path.{refl}
 use borrow.Author.Needs.{needs}
 use Rattle.run_effects.specs.Sending.Laws.{acts-as}

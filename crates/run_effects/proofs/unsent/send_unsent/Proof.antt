@@ -1,5 +1,4 @@
 -- `run_effects::unsent::send_unsent` meets its contract: the two sendings of rule 5, one after the other.
--- Assumes nothing.
 use native.Mathlib.Omega.{arith}
 use Rattle.run_effects.specs.Sending.Rules.{sendable}
 use Rattle.run_effects.specs.Sending.Unsent.{sixteen-after, next-count, unsent-acts}

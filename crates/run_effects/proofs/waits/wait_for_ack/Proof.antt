@@ -1,5 +1,4 @@
 -- `run_effects::waits::wait_for_ack` meets its contract: the record of a wait.
--- Assumes nothing.
 use Rattle.run_effects.specs.Sending.Rules.{ack-waits}
 use borrow.Author.Needs.{needs}
 use Rattle.run_effects.proofs.waits.wait_for_ack.Statement.{statement}

@@ -1,5 +1,4 @@
 -- `run_effects::waits::wait_for_input` meets its contract: the record of a wait.
--- Assumes nothing.
 use Rattle.run_effects.specs.Sending.Rules.{input-waits}
 use borrow.Author.Needs.{needs}
 use Rattle.run_effects.proofs.waits.wait_for_input.Statement.{statement}

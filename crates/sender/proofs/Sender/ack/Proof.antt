@@ -1,7 +1,6 @@
--- `sender::Sender::ack` meets its contract: refused with all as it was, or answered as the crate ack does.
--- Assumes nothing.
+-- `sender::Sender::ack` meets its contract: refused with nothing changed, or answered by buffer_ack.
 use mathlib.Core.Path.{sym, _∙_}
-use Rattle.refusals.specs.Verdict.Laws.{answer-refused, answer-accepted}
+use Rattle.refusals.specs.Laws.{answer-refused, answer-accepted}
 use Rattle.sender.specs.Acks.{ack}
 use Rattle.sender.specs.Acks.Laws.{acknowledged-by, asked}
 use borrow.Author.Needs.{needs}

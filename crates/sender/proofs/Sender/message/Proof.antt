@@ -1,7 +1,6 @@
--- `sender::Sender::message` meets its contract: refused with all as it was, or pushed.
--- Assumes nothing.
+-- `sender::Sender::message` meets its contract: refused with nothing changed, or pushed.
 use mathlib.Core.Path.{sym, _∙_}
-use Rattle.refusals.specs.Verdict.Laws.{answer-refused, answer-accepted}
+use Rattle.refusals.specs.Laws.{answer-refused, answer-accepted}
 use Rattle.sender.specs.Calls.{message}
 use Rattle.sender.specs.Calls.Laws.{pushable}
 use borrow.Author.Needs.{needs}

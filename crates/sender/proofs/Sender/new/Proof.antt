@@ -1,5 +1,4 @@
--- `sender::Sender::new` meets its contract: the settings first, then the mode, which pacing judges.
--- Assumes nothing.
+-- `sender::Sender::new` meets its contract: the settings are tested, then the mode, by pacing.
 use mathlib.Core.Path.{sym, _∙_}
 use borrow.Author.Tests.{not-true, not-false}
 use Rattle.sender.specs.Calls.Laws.{made-bad, made-refused, made-ready}

@@ -1,8 +1,7 @@
--- `sender::judging::areas_short` meets its contract: no test where the settings are out of range, else two.
--- Assumes nothing.
+-- `sender::judging::areas_short` meets its contract: two tests, if the settings are in range.
 use mathlib.Core.Path.{sym, _∙_}
 use borrow.Author.Tests.{not-true, not-false}
-use Rattle.sender.specs.Books.{areasShort}
+use Rattle.sender.specs.SenderAndAreas.{areasShort}
 use borrow.Author.Needs.{needs}
 use Rattle.sender.proofs.judging.areas_short.Statement.{statement}
 use Rattle.sender.proofs.judging.areas_short.Tie as tie

@@ -1,5 +1,4 @@
--- `sender::judging::count_is_full` meets its contract: the sum stays far below 2^64, and pacing is asked for the same packets.
--- Assumes nothing.
+-- `sender::judging::count_is_full` meets its contract: the sum is far below 2^64, and pacing tests the same packets.
 use native.Mathlib.Nat.{mul-le-mul-right}
 use native.Mathlib.Omega.{arith}
 use Rattle.sender.specs.Calls.{countIsFull}

@@ -1,7 +1,6 @@
 -- `sender::judging::judge` meets its contract: the two tests, chained by `when`.
--- Assumes nothing.
 use mathlib.Core.Path.{_∙_}
-use Rattle.sender.specs.Books.{judge}
+use Rattle.sender.specs.SenderAndAreas.{judge}
 use borrow.Author.Needs.{needs}
 use Rattle.sender.proofs.judging.judge.Statement.{statement}
 use Rattle.sender.proofs.judging.judge.Tie as tie

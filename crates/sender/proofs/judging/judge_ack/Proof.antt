@@ -1,5 +1,4 @@
--- `sender::judging::judge_ack` meets its contract: its tests in their order (`judge-ack-is`).
--- Assumes nothing.
+-- `sender::judging::judge_ack` meets its contract: its tests, in order (`judge-ack-is`).
 use Rattle.sender.specs.Acks.Laws.{judge-ack-is}
 use borrow.Author.Needs.{needs}
 use Rattle.sender.proofs.judging.judge_ack.Statement.{statement}

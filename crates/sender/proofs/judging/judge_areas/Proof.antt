@@ -1,5 +1,4 @@
--- `sender::judging::judge_areas` meets its contract: the two tests, of the areas that are lent.
--- Assumes nothing.
+-- `sender::judging::judge_areas` meets its contract: the two tests, for the lent areas.
 use mathlib.Core.Path.{_∙_}
 use borrow.Author.Needs.{needs}
 use Rattle.sender.proofs.judging.judge_areas.Statement.{statement}

@@ -1,5 +1,4 @@
--- `sender::judging::judge_input` meets its contract: the three tests in their order.
--- Assumes nothing.
+-- `sender::judging::judge_input` meets its contract: the three tests, in order.
 use mathlib.Core.Path.{_∙_}
 use borrow.Author.Tests.{lt-ltb, le-ltb}
 use Rattle.sender.specs.Calls.{inputVerdict}

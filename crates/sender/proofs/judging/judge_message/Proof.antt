@@ -1,5 +1,4 @@
--- `sender::judging::judge_message` meets its contract: 2 and 3 first, so that the byte count may be summed.
--- Assumes nothing.
+-- `sender::judging::judge_message` meets its contract: 2 and 3 are tested first, so the byte count can be summed.
 use mathlib.Core.Path.{sym, _∙_}
 use Rattle.sender.specs.Calls.{messageVerdict}
 use Rattle.sender.specs.Calls.Laws.{counting, then-refused, then-by}

@@ -1,6 +1,5 @@
--- `sender::judging::kept` meets its contract: the buffer's rules and pacing's.
--- Assumes nothing.
-use Rattle.sender.specs.Books.{kept}
+-- `sender::judging::kept` meets its contract: the rules of the buffer and of pacing.
+use Rattle.sender.specs.SenderAndAreas.{kept}
 use borrow.Author.Needs.{needs}
 use Rattle.sender.proofs.judging.kept.Statement.{statement}
 use Rattle.sender.proofs.judging.kept.Tie as tie

@@ -1,5 +1,4 @@
--- `sender::judging::rtt_is_bad` meets its contract: no test where none is brought, else one.
--- Assumes nothing.
+-- `sender::judging::rtt_is_bad` meets its contract: one test, if the ACK has a round-trip time.
 use Rattle.rules.specs.Refusals.{badRtt}
 use borrow.Author.Needs.{needs}
 use Rattle.sender.proofs.judging.rtt_is_bad.Statement.{statement}

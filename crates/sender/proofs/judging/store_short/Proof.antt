@@ -1,5 +1,4 @@
--- `sender::judging::store_short` meets its contract: no test where the settings are out of range, else one; in range the product is small.
--- Assumes nothing.
+-- `sender::judging::store_short` meets its contract: one test, if the settings are in range; the product is then small.
 use mathlib.Core.Path.{sym, _∙_}
 use Prim.Native.Nat.{_≤_}
 use native.Mathlib.Nat.{mul-le-mul-right}
@@ -7,7 +6,7 @@ use native.Mathlib.Omega.{arith}
 use borrow.Author.Tests.{not-true, not-false}
 use Rattle.buffer.specs.State.{settingsOf}
 use Rattle.buffer.specs.State.Facts.{range-facts}
-use Rattle.sender.specs.Books.{storeShort}
+use Rattle.sender.specs.SenderAndAreas.{storeShort}
 use borrow.Author.Needs.{needs}
 use Rattle.sender.proofs.judging.store_short.Statement.{statement}
 use Rattle.sender.proofs.judging.store_short.Tie as tie

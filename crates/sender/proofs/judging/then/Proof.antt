@@ -1,5 +1,4 @@
 -- `sender::judging::then` meets its contract, case by case.
--- Assumes nothing.
 use borrow.Author.Needs.{needs}
 use Rattle.sender.proofs.judging.then.Statement.{statement}
 use Rattle.sender.proofs.judging.then.Tie as tie

@@ -1,5 +1,4 @@
 -- `sessions::messages::fill` is safe and ends: the area stays as long as it was, and the measure is how many bytes are left.
--- Assumes nothing.
 use mathlib.Core.Path.{_≡_, refl}
 use Prim.Native.Nat.{_-_}
 use lib.ListN.{length}

@@ -1,5 +1,4 @@
 -- `sessions::naks::show_runs` is safe and ends: the measure is how many of the n runs are left.
--- Assumes nothing.
 use Prim.Native.Nat.{_-_}
 use borrow.Author.Needs.{needs}
 use Rattle.sessions.proofs.naks.show_runs.Statement.{statement}

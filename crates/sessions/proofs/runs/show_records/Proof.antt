@@ -1,5 +1,4 @@
 -- `sessions::runs::show_records` is safe and ends: the measure is how many of the n records are left.
--- Assumes nothing.
 use Prim.Native.Nat.{_-_}
 use borrow.Author.Needs.{needs}
 use Rattle.sessions.proofs.runs.show_records.Statement.{statement}

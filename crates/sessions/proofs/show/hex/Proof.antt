@@ -1,5 +1,4 @@
 -- `sessions::show::hex` is safe and ends: the measure is how many of the bytes are left.
--- Assumes nothing.
 use Prim.Native.Nat.{_-_}
 use lib.ListN.{length}
 use borrow.Author.Needs.{needs}

@@ -1,6 +1,5 @@
 -- `timer_checks::wake::judge_next` meets its contract: the tests, chained by `when`.
--- Assumes nothing.
-use Rattle.timer_checks.specs.Wake.{judgeNext}
+use Rattle.rules_timers.specs.Wake.{judgeNext}
 use borrow.Author.Needs.{needs}
 use Rattle.timer_checks.proofs.wake.judge_next.Statement.{statement}
 use Rattle.timer_checks.proofs.wake.judge_next.Tie as tie

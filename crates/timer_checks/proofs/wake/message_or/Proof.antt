@@ -1,8 +1,7 @@
 -- `timer_checks::wake::message_or` meets its contract, by the case of the message.
--- Assumes nothing.
 use mathlib.Core.Path.{_∙_, sym, ap}
-use Rattle.timer_checks.specs.declared.wake.NextMessage.{NextMessage}
-use Rattle.timer_checks.specs.Wake.{messageOr}
+use Rattle.rules_timers.specs.declared.NextMessage.{NextMessage}
+use Rattle.rules_timers.specs.Wake.{messageOr}
 use borrow.Author.Needs.{needs}
 use Rattle.timer_checks.proofs.wake.message_or.Statement.{statement}
 use Rattle.timer_checks.proofs.wake.message_or.Tie as tie

@@ -1,11 +1,10 @@
--- `timer_checks::wake::next_timer` meets its contract: refused as `judge_next` says, else what `wake` ensures, whose timers are kept
--- (`accepted-kept`).
--- Assumes nothing.
+-- `timer_checks::wake::next_timer` meets its contract: refused as `judge_next` says, or what `wake` ensures, since the
+-- timers keep the rules (`accepted-kept`).
 use mathlib.Core.Path.{_∙_, sym}
-use Rattle.timer.specs.declared.Nanoseconds.the-variants.{Refused}
-use Rattle.timer_checks.specs.Wake.{judgeNext, nextTimer}
-use Rattle.timers.specs.Timers.Laws.{accepted-kept}
-use Rattle.refusals.specs.Verdict.Laws.{answer-refused, answer-accepted}
+use Rattle.rules_timers.specs.declared.Nanoseconds.the-variants.{Refused}
+use Rattle.rules_timers.specs.Wake.{judgeNext, nextTimer}
+use Rattle.timers.specs.Laws.{accepted-kept}
+use Rattle.refusals.specs.Laws.{answer-refused, answer-accepted}
 use borrow.Author.Needs.{needs}
 use Rattle.timer_checks.proofs.wake.next_timer.Statement.{statement}
 use Rattle.timer_checks.proofs.wake.next_timer.Tie as tie

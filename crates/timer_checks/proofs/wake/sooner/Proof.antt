@@ -1,5 +1,4 @@
--- `timer_checks::wake::sooner` meets its contract: the branch goes by `on`; the sum fits, since the timer is kept.
--- Assumes nothing.
+-- `timer_checks::wake::sooner` meets its contract, by cases of `on`; the sum fits, since the timer keeps the rules.
 use borrow.Author.Needs.{needs}
 use Rattle.timer_checks.proofs.wake.sooner.Statement.{statement}
 use Rattle.timer_checks.proofs.wake.sooner.Tie as tie

@@ -1,7 +1,6 @@
 -- `timer_checks::wake::too_late` meets its contract, by the case of the message.
--- Assumes nothing.
 use mathlib.Core.Path.{sym, ap}
-use Rattle.timer_checks.specs.Wake.{tooLate}
+use Rattle.rules_timers.specs.Wake.{tooLate}
 use borrow.Author.Needs.{needs}
 use Rattle.timer_checks.proofs.wake.too_late.Statement.{statement}
 use Rattle.timer_checks.proofs.wake.too_late.Tie as tie

@@ -1,6 +1,6 @@
--- `timer_checks::wake::wake` meets its contract: each step is the one of its definition; the sums fit, since the timers are kept.
--- Assumes nothing.
-use Rattle.timer_checks.specs.Wake.{wake}
+-- `timer_checks::wake::wake` meets its contract: each step is that of its definition; the sums fit, since the timers
+-- keep the rules.
+use Rattle.rules_timers.specs.Wake.{wake}
 use borrow.Author.Needs.{needs}
 use Rattle.timer_checks.proofs.wake.wake.Statement.{statement}
 use Rattle.timer_checks.proofs.wake.wake.Tie as tie

@@ -1,5 +1,4 @@
--- `host_structs::pacings::FlatPacing::control` meets its contract: part by part, as `controlOf` has them.
--- Assumes nothing.
+-- `host_structs::pacings::FlatPacing::control` meets its contract: field by field, as in `controlOf`.
 use borrow.Author.Needs.{needs}
 use Rattle.host_structs.proofs.pacings.FlatPacing.control.Statement.{statement}
 use Rattle.host_structs.proofs.pacings.FlatPacing.control.Tie as tie

@@ -1,5 +1,4 @@
--- `host_structs::senders::FlatBooks::buffer` meets its contract: part by part, as `bufferOf` has them.
--- Assumes nothing.
+-- `host_structs::senders::FlatBooks::buffer` meets its contract: field by field, as in `bufferOf`.
 use borrow.Author.Needs.{needs}
 use Rattle.host_structs.proofs.senders.FlatBooks.buffer.Statement.{statement}
 use Rattle.host_structs.proofs.senders.FlatBooks.buffer.Tie as tie

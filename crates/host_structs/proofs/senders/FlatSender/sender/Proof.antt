@@ -1,5 +1,4 @@
--- `host_structs::senders::FlatSender::sender` meets its contract: part by part, as `senderOf` has them.
--- Assumes nothing.
+-- `host_structs::senders::FlatSender::sender` meets its contract: field by field, as in `senderOf`.
 use Rattle.host_structs.specs.Senders.{senderOf}
 use borrow.Author.Needs.{needs}
 use Rattle.host_structs.proofs.senders.FlatSender.sender.Statement.{statement}

@@ -1,3 +1,0 @@
-pub mod Naks
-pub mod Payload
-pub mod Reports

@@ -1,0 +1,4 @@
+pub mod Ascending
+pub mod Bools
+pub mod Choice
+pub mod Lists

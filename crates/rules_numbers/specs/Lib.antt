@@ -1,0 +1,4 @@
+pub mod Bytes
+pub mod Modular
+pub mod Limits
+pub mod Rtt

@@ -1,0 +1,5 @@
+pub mod Rate
+pub mod Period
+pub mod Kept
+pub mod Pacing
+pub mod Examples

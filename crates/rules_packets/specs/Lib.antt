@@ -1,0 +1,4 @@
+pub mod Split
+pub mod Header
+pub mod Figures
+pub mod Examples

@@ -1,0 +1,5 @@
+pub mod Timer
+pub mod Periods
+pub mod Timers
+pub mod Checks
+pub mod Wake
