@@ -33,7 +33,7 @@ static struct {
 static void must(int refusal, const char *call)
 {
     if (refusal != 0) {
-        fprintf(stderr, "story: %s was refused: %d\n", call, refusal);
+        fprintf(stderr, "story: %s was refused: %d, %s\n", call, refusal, phel_refusal_name(refusal));
         exit(2);
     }
 }
@@ -158,7 +158,7 @@ static void sleep_from(uint64_t now)
     uint64_t wake = 0;
     must(phel_sender_reports(&hub.sender, &areas, &reports, NULL), "reports");
     must(phel_timers_next_timer(&hub.timers, now * NANO, reports.has_packets_to_send,
-                               hub.picture < PICTURES ? &picture : NULL, 0, &wake),
+                                hub.picture < PICTURES ? &picture : NULL, 0, &wake),
          "next_timer");
     hub.wake = (wake + NANO - 1) / NANO;
 }

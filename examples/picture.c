@@ -35,13 +35,13 @@ struct receiver {
 };
 
 /* No call of this host should be refused; a real host decides what to do for each number. */
-#define EXPECT(call)                                                                  \
-    do {                                                                              \
-        const int refusal = (call);                                                   \
-        if (refusal != 0) {                                                           \
-            fprintf(stderr, "line %d: refused, number %d\n", __LINE__, refusal);      \
-            exit(1);                                                                  \
-        }                                                                             \
+#define EXPECT(call)                                                                                      \
+    do {                                                                                                  \
+        const int refusal = (call);                                                                       \
+        if (refusal != 0) {                                                                               \
+            fprintf(stderr, "line %d: refused: %d, %s\n", __LINE__, refusal, phel_refusal_name(refusal)); \
+            exit(1);                                                                                      \
+        }                                                                                                 \
     } while (0)
 
 /* Begins a line of the story. */
