@@ -6,8 +6,8 @@
  * lie between forbidden pages (areas.h).
  *
  * After each call: its refusal is document 01's; a refused call left every byte of sender, areas and lists as it was,
- * but for refusal 11's round-trip time; an accepted one answered and left what document 01 says, which the models of
- * tests/rules.h work out, and the books that it left are not refused.
+ * but for refusal 11's round-trip time; an accepted one answered and left what document 01 says, which the model works
+ * out (model/model.h), and the books that it left are not refused.
  *   host.c    what is kept and lent from call to call, and the checks after a call
  *   choose.c  arguments from a call's numbers
  *   calls.c   the sender's calls

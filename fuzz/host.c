@@ -53,14 +53,13 @@ static void lend(struct area *a, size_t asked, unsigned bit)
     area_lend(a, kept.lend.how & bit ? other_length(len, most) : len, kept.front);
 }
 
-struct phel_areas lend_areas(void)
+void lend_areas(void)
 {
     const struct phel_settings *c = &kept.sender.settings;
     lend(&kept.ring, PHEL_RING_WORDS(c->buffer), 1);
     lend(&kept.lost, PHEL_LOST_WORDS(c->buffer), 2);
     lend(&kept.store, PHEL_STORE_BYTES(c->buffer, c->size), 4);
     kept.lend.how = 0;
-    return (struct phel_areas){RING, LOST, STORE};
 }
 
 /* ---- After a call ---------------------------------------------------------------------------------------------- */
@@ -73,52 +72,34 @@ void note_answer(unsigned step, uint32_t number)
     kept.last = here;
 }
 
-void areas_stay(void)
-{
-    area_stays(&kept.ring);
-    area_stays(&kept.lost);
-    area_stays(&kept.store);
-}
-
-bool refused(enum step step, const struct phel_sender *left, const struct phel_sender *back, const want *why,
-             const want *wanted)
-{
-    note_answer(step, why->number);
-    must(same_refusal(why, wanted), "another refusal than document 01's");
-    if (why->number == 0)
-        return false;
-    must(same_sender(left, back), "a refused call changed the sender");
-    kept.sender = *left;
-    areas_stay();
-    return true;
-}
-
-struct copy modelled(void)
-{
-    return (struct copy){kept.sender, (uint64_t *)kept.ring.kept, (uint32_t *)kept.lost.kept, kept.store.kept,
-                         kept.records.kept, (uint32_t *)kept.runs.kept};
-}
-
 void check_reports(const struct phel_reports_answer *r)
 {
     const struct phel_books *b = &kept.sender.books;
-    struct copy by = modelled();
-    struct phel_reports wanted;
-    must(r->refusal.number == 0, "an accepted call left books that are refused");
-    model_reports(&by, &wanted);
-    must(same_reports(&r->done, &wanted), "reports: another answer");
+    const struct phel_reports_answer by = model_reports(kept.sender, KEPT_RING, KEPT_LOST);
+    must(same_refusal(&r->refusal, &by.refusal) && same_reports(&r->done, &by.done), "reports: another answer");
     note(NOTE_SHAPE, size_of(b->ring.len) * 16 + size_of(b->lost));
     note(NOTE_SHAPE + 1, size_of(b->sent) * 16 + size_of(b->ring.len - b->sent));
-    note(NOTE_SHAPE + 2, size_of(wanted.duration));
+    note(NOTE_SHAPE + 2, size_of(by.done.duration));
 }
 
-void go_on(const struct copy *by, const struct phel_sender *back)
+bool settle(enum step step, const struct phel_refusal *why, const struct phel_refusal *by,
+            const struct phel_sender *back, const struct phel_sender *left)
 {
-    must(same_sender(&by->sender, back), "an accepted call left another sender than document 01");
-    areas_stay();
+    note_answer(step, why->number);
+    must(same_refusal(why, by), "another refusal than document 01's");
+    must(same_sender(left, back), "a call left another sender than document 01");
+    area_stays(&kept.ring);
+    area_stays(&kept.lost);
+    area_stays(&kept.store);
     kept.sender = *back;
+    return why->number == 0;
+}
+
+void go_on(void)
+{
     kept.damaged = false;
     const struct phel_reports_answer r = phel_entry_reports(kept.sender, RING, LOST);
+    must(r.refusal.number == 0, "an accepted call left books that are refused");
     check_reports(&r);
 }
 

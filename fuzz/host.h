@@ -3,8 +3,9 @@
 #define HOST_H
 
 #include "areas.h"
+#include "fields.h"
 #include "input.h"
-#include "rules.h"
+#include "model.h"
 
 enum {
     PACKETS_MOST = 340,
@@ -38,30 +39,31 @@ static inline size_t least(size_t a, size_t b)
 void map_areas(void);
 
 /* Lends ring, loss list and store as the settings ask, or as the call before said. */
-struct phel_areas lend_areas(void);
+void lend_areas(void);
 
+/* The areas as they are lent to the library, and as they are kept for the model, which makes of them what the call must
+ * leave. */
 #define RING (uint64_t *)kept.ring.at, kept.ring.len
 #define LOST (uint32_t *)kept.lost.at, kept.lost.len
 #define STORE kept.store.at, kept.store.len
+#define KEPT_RING (uint64_t *)kept.ring.kept, kept.ring.len
+#define KEPT_LOST (uint32_t *)kept.lost.kept, kept.lost.len
+#define KEPT_STORE kept.store.kept, kept.store.len
 
 /* Shows the fuzzer what a step was answered, and after which. */
 void note_answer(unsigned step, uint32_t number);
 
-/* Whether a call was refused, as |wanted| says: it gave back |left| then, and wrote nothing. */
-bool refused(enum step step, const struct phel_sender *left, const struct phel_sender *back, const want *why,
-             const want *wanted);
-
-/* The sender and the areas for a model to work in: what is kept becomes what the call must leave. */
-struct copy modelled(void);
-
-/* The lent areas are as they are kept. */
-void areas_stay(void);
+/* A call's refusal, the sender that it gave back and the lent areas are the model's, and the next call takes what it
+ * left. The answer is whether it was accepted. */
+bool settle(enum step step, const struct phel_refusal *why, const struct phel_refusal *by,
+            const struct phel_sender *back, const struct phel_sender *left);
 
 /* The reports of what is kept are the model's. */
 void check_reports(const struct phel_reports_answer *r);
 
-/* An accepted call left what the model did; the next call takes it. */
-void go_on(const struct copy *by, const struct phel_sender *back);
+/* After an accepted call that changes the books: damage that was for one call is for good, and the books are not
+ * refused. */
+void go_on(void);
 
 /* Keeps the books as they are, so that a damage is for one call; and undoes it, but where an accepted call went on. */
 void before_damage(void);

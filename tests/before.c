@@ -1,14 +1,13 @@
-/* before.c: all that is kept and lent is copied before a call. After it the number is held against refusals.c; a
- * refused call must have left every byte, an accepted one what the model makes of the copy, and books that keep the
- * rules. */
+/* before.c: all that is kept and lent is copied before a call. The model makes the same call on the copy; after both the
+ * number, the values, the sender and every byte lent must be alike. */
 #include "outside.h"
 
 int bent;
 bool ask_all;
-want said;
+struct phel_refusal said;
 struct copy was;
-static unsigned turn; /* counts the calls */
-static want why;      /* of the call that is made */
+static unsigned turn;           /* counts the calls */
+static struct phel_refusal why; /* of the call that is made */
 
 /* ---- The copy */
 
@@ -31,9 +30,9 @@ static struct {
 
 static void keep(void)
 {
+    size_t bytes;
     memcpy(&was.sender, &desk.sender, sizeof was.sender);
     for (int i = 0; i < LENT; i++) {
-        size_t bytes;
         const uint8_t *at = lent_at(i, &bytes);
         if (bytes > copies[i].room) {
             free(copies[i].at);
@@ -48,6 +47,11 @@ static void keep(void)
     was.store = copies[2].at;
     was.records = copies[3].at;
     was.runs = copies[4].at;
+    was.ring_len = desk.lent.ring == NULL ? 0 : desk.lent.ring_len;
+    was.lost_len = desk.lent.lost == NULL ? 0 : desk.lent.lost_len;
+    was.store_len = desk.lent.store == NULL ? 0 : desk.lent.store_len;
+    was.records_len = desk.records == NULL ? 0 : desk.records_len;
+    was.runs_len = desk.runs == NULL ? 0 : desk.runs_len;
 }
 
 /* Every byte lent is as in the copy. */
@@ -76,19 +80,9 @@ bool with_answer(void)
     return ask_all || turn % 5 != 0;
 }
 
-want *asked_why(void)
+struct phel_refusal *asked_why(void)
 {
     return ask_all || turn % 3 != 0 ? &why : NULL;
-}
-
-const struct phel_areas *seen(void)
-{
-    static struct phel_areas a;
-    a = desk.lent;
-    a.ring_len = a.ring == NULL ? 0 : a.ring_len;
-    a.lost_len = a.lost == NULL ? 0 : a.lost_len;
-    a.store_len = a.store == NULL ? 0 : a.store_len;
-    return &a;
 }
 
 /* ---- After a call */
@@ -107,57 +101,63 @@ static int bend(int number)
 }
 
 /* The number, and the values where they were asked for, are document 01's. */
-static void as_wanted(enum entry e, int number, const want *w)
+static void as_wanted(enum entry e, int number, const struct phel_refusal *by)
 {
-    const want *told = asked_why();
+    const struct phel_refusal *told = asked_why();
     count_call(e, number);
-    check((uint32_t)number == w->number, "another number than document 01 gives");
-    check(told == NULL || same_refusal(told, w), "other values than document 01 gives");
+    check((uint32_t)number == by->number, "another number than document 01 gives");
+    check(told == NULL || same_refusal(told, by), "other values than document 01 gives");
     if (told != NULL)
         said = *told;
 }
 
-static void sender_stays(void)
+/* A refused call leaves every byte of the sender, its padding too, but for the RTT that 11 keeps. */
+static void sender_stays(int number)
 {
-    check(memcmp(&was.sender, &desk.sender, sizeof was.sender) == 0, "a refused call changed the sender");
+    struct phel_sender stays;
+    memcpy(&stays, &was.sender, sizeof stays);
+    if (number == PHEL_STALE_FULL_ACK)
+        stays.books.rtt = desk.sender.books.rtt;
+    check(memcmp(&stays, &desk.sender, sizeof stays) == 0, "a refused call changed the sender");
 }
 
-void settle_new(int number, want w)
+void settle_new(int number, const struct phel_new_answer *by)
 {
-    as_wanted(E_NEW, number, &w);
+    as_wanted(E_NEW, number, &by->refusal);
     if (number != 0)
-        sender_stays();
+        sender_stays(number);
+    else
+        check(same_sender(&by->sender, &desk.sender), "a fresh sender is another");
 }
 
-int settle(enum entry e, int number, want w)
+int settle(enum entry e, int number, const struct phel_refusal *by, const struct phel_sender *left)
 {
     number = bend(number);
-    as_wanted(e, number, &w);
-    if (number == 0) {
-        check(books_kept(&desk.sender, &desk.lent), "an accepted call left books that break a rule");
-    } else {
-        sender_stays();
-        check(same_areas(), "a refused call changed what was lent");
-    }
+    as_wanted(e, number, by);
+    check(same_sender(left, &desk.sender), "the sender is another than by document 01");
+    check(same_areas(), number != 0 ? "a refused call changed what was lent" : "what is lent is other than by document 01");
+    if (number != 0)
+        sender_stays(number);
+    else
+        check(model_reports(desk.sender, DESK_RING, DESK_LOST).refusal.number == 0,
+              "an accepted call left books that break a rule");
     return number;
 }
 
-void as_modelled(void)
+static bool untouched(const uint8_t *at, size_t bytes)
 {
-    check(same_sender(&was.sender, &desk.sender), "the sender is another than by document 01");
-    check(same_areas(), "what is lent is other than by document 01");
+    for (size_t i = 0; i < bytes; i++)
+        if (at[i] != 0xee)
+            return false;
+    return true;
 }
 
-void check_left(int number, const void *answer, size_t bytes)
+void check_answer(int number, const void *answer, size_t bytes, bool same)
 {
-    const uint8_t *at = answer;
     if (number == 0 && with_answer())
-        return;
-    for (size_t i = 0; i < bytes; i++)
-        if (at[i] != 0xee) {
-            fail("an answer was written");
-            return;
-        }
+        check(same, "another answer than by document 01");
+    else
+        check(untouched(answer, bytes), "an answer was written");
 }
 
 bool once_more(int number)
@@ -166,7 +166,7 @@ bool once_more(int number)
            desk.lent.store != NULL && desk.records != NULL && desk.runs != NULL;
 }
 
-void given_back(int number, const want *told, const struct phel_sender *sender)
+void given_back(int number, const struct phel_refusal *told, const struct phel_sender *sender)
 {
     check(bent != 0 || told->number == (uint32_t)number, "the entry answers another number");
     check(same_sender(sender, &desk.sender), "the entry does not give the sender back");

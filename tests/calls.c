@@ -1,21 +1,19 @@
-/* calls.c: every call of the sender, made through phelgomrit.h and settled by before.c. Now and then a refused call is
- * made once more by the entry itself, which must give back what it was given. */
+/* calls.c: every call of the sender, made through phelgomrit.h and by the model, and settled by before.c. Now and then a
+ * refused call is made once more by the entry itself, which must give back what it was given. */
 #include "outside.h"
 
 #define FILL(x) memset(&(x), 0xee, sizeof(x))
 
 int do_new(const struct phel_settings *c, uint32_t mode, uint64_t rate, uint64_t overhead)
 {
+    const struct phel_new_answer by = model_new(*c, mode, rate, overhead);
     int number;
     begin_call();
     number = phel_sender_new(&desk.sender, c, mode, rate, overhead, asked_why());
-    settle_new(number, want_new(c, mode, rate, overhead));
-    if (number != 0)
-        return number;
-    model_new(&was, c, mode, rate, overhead);
-    check(same_sender(&was.sender, &desk.sender), "a fresh sender is another");
-    check(desk.lent.ring == NULL || desk.lent.ring_len < capacity_of(c) * 6 || books_kept(&desk.sender, &desk.lent),
-          "a fresh sender breaks a rule");
+    settle_new(number, &by);
+    if (number == 0)
+        check(model_reports(desk.sender, WAS_RING, WAS_LOST).refusal.number != PHEL_BAD_STATE,
+              "a fresh sender breaks a rule");
     return number;
 }
 
@@ -23,25 +21,21 @@ int do_message(uint64_t time, uint64_t now, const uint8_t *payload, size_t len,
                struct phel_messaged *answer)
 {
     static const struct phel_messaged nothing;
-    const want w = want_message(&desk.sender, seen(), time, now, len);
-    struct phel_messaged m, by;
+    struct phel_message_answer by;
+    struct phel_messaged m;
     int number;
     FILL(m);
     begin_call();
+    by = model_message(was.sender, time, now, payload, len, WAS_RING, WAS_LOST, WAS_STORE);
     number = phel_sender_message(&desk.sender, &desk.lent, time, now, payload, len, with_answer() ? &m : NULL,
                                 asked_why());
-    number = settle(E_MESSAGE, number, w);
-    check_left(number, &m, sizeof m);
+    number = settle(E_MESSAGE, number, &by.refusal, &by.sender);
+    check_answer(number, &m, sizeof m, same_messaged(&m, &by.done));
     if (payload != NULL && once_more(number)) {
-        const struct phel_message_answer r = phel_entry_message(desk.sender, time, now, payload, len, desk.lent.ring,
-            desk.lent.ring_len, desk.lent.lost, desk.lent.lost_len, desk.lent.store, desk.lent.store_len);
+        const struct phel_message_answer r =
+            phel_entry_message(desk.sender, time, now, payload, len, DESK_RING, DESK_LOST, DESK_STORE);
         given_back(number, &r.refusal, &r.sender);
         check(same_messaged(&r.done, &nothing), "zeros are due");
-    }
-    if (number == 0 && w.number == 0) {
-        model_message(&was, time, now, payload, len, &by);
-        as_modelled();
-        check(!with_answer() || same_messaged(&m, &by), "a message came to something else");
     }
     if (answer != NULL)
         *answer = m;
@@ -50,29 +44,23 @@ int do_message(uint64_t time, uint64_t now, const uint8_t *payload, size_t len,
 
 int do_ack(uint32_t ack, const uint32_t *full, const struct phel_rtt *rtt, struct phel_acked *answer)
 {
-    static const struct phel_rtt none;
     static const struct phel_acked nothing;
-    const want w = want_ack(&desk.sender, seen(), ack, full, rtt);
-    struct phel_acked a, by;
+    const struct phel_rtt brought = rtt != NULL ? *rtt : desk.sender.books.rtt;
+    const uint32_t brought_full = full != NULL ? *full : 0;
+    struct phel_ack_answer by;
+    struct phel_acked a;
     int number;
     FILL(a);
     begin_call();
+    by = model_ack(was.sender, ack, full != NULL, brought_full, rtt != NULL, brought, WAS_RING, WAS_LOST);
     number = phel_sender_ack(&desk.sender, &desk.lent, ack, full, rtt, with_answer() ? &a : NULL, asked_why());
-    if (number == PHEL_STALE_FULL_ACK && rtt != NULL) /* "11 alone keeps a new RTT" */
-        was.sender.books.rtt = *rtt;
-    number = settle(E_ACK, number, w);
-    check_left(number, &a, sizeof a);
+    number = settle(E_ACK, number, &by.refusal, &by.sender);
+    check_answer(number, &a, sizeof a, same_acked(&a, &by.done));
     if (once_more(number)) {
-        const struct phel_ack_answer r = phel_entry_ack(desk.sender, ack, full != NULL, full != NULL ? *full : 0,
-            rtt != NULL, rtt != NULL ? *rtt : none, desk.lent.ring, desk.lent.ring_len, desk.lent.lost,
-            desk.lent.lost_len);
+        const struct phel_ack_answer r =
+            phel_entry_ack(desk.sender, ack, full != NULL, brought_full, rtt != NULL, brought, DESK_RING, DESK_LOST);
         given_back(number, &r.refusal, &r.sender);
         check(same_acked(&r.done, &nothing), "zeros are due");
-    }
-    if (number == 0 && w.number == 0) {
-        model_ack(&was, ack, full, rtt, &by);
-        as_modelled();
-        check(!with_answer() || same_acked(&a, &by), "an ACK came to something else");
     }
     if (answer != NULL)
         *answer = a;
@@ -81,25 +69,21 @@ int do_ack(uint32_t ack, const uint32_t *full, const struct phel_rtt *rtt, struc
 
 int do_nak(const uint32_t *words, size_t len, size_t *answer)
 {
-    const want w = want_nak(&desk.sender, seen(), words, len, desk.runs == NULL ? 0 : desk.runs_len);
+    struct phel_nak_answer by;
     size_t n;
     int number;
     FILL(n);
     begin_call();
+    by = model_nak(was.sender, words, len, WAS_RING, WAS_LOST, was.runs, was.runs_len);
     number = phel_sender_nak(&desk.sender, &desk.lent, words, len, desk.runs, desk.runs_len, with_answer() ? &n : NULL,
                             asked_why());
-    number = settle(E_NAK, number, w);
-    check_left(number, &n, sizeof n);
+    number = settle(E_NAK, number, &by.refusal, &by.sender);
+    check_answer(number, &n, sizeof n, n == by.runs);
     if (words != NULL && once_more(number)) {
-        const struct phel_nak_answer r = phel_entry_nak(desk.sender, words, len, desk.lent.ring, desk.lent.ring_len,
-            desk.lent.lost, desk.lent.lost_len, desk.runs, desk.runs_len);
+        const struct phel_nak_answer r =
+            phel_entry_nak(desk.sender, words, len, DESK_RING, DESK_LOST, desk.runs, desk.runs_len);
         given_back(number, &r.refusal, &r.sender);
         check(r.runs == 0, "a zero is due");
-    }
-    if (number == 0 && w.number == 0) {
-        const size_t by = model_nak(&was, words, len);
-        as_modelled();
-        check(!with_answer() || n == by, "another number of runs");
     }
     if (answer != NULL)
         *answer = n;
@@ -123,26 +107,22 @@ static void bounded(size_t records, uint32_t budget)
 int do_run(uint64_t now, uint32_t budget, bool draining, struct phel_ran *answer)
 {
     static const struct phel_ran nothing;
-    const want w = want_run(&desk.sender, seen(), now, budget, desk.records == NULL ? 0 : desk.records_len);
-    struct phel_ran r, by;
+    struct phel_run_answer by;
+    struct phel_ran r;
     int number;
     FILL(r);
     begin_call();
+    by = model_run(was.sender, now, budget, draining, WAS_RING, WAS_LOST, was.records, was.records_len);
     number = phel_sender_run(&desk.sender, &desk.lent, now, budget, draining, desk.records, desk.records_len,
                             with_answer() ? &r : NULL, asked_why());
-    number = settle(E_RUN, number, w);
-    check_left(number, &r, sizeof r);
+    number = settle(E_RUN, number, &by.refusal, &by.sender);
+    check_answer(number, &r, sizeof r, same_ran(&r, &by.done));
+    bounded(by.done.records, budget);
     if (once_more(number)) {
-        const struct phel_run_answer e = phel_entry_run(desk.sender, now, budget, draining, desk.lent.ring,
-            desk.lent.ring_len, desk.lent.lost, desk.lent.lost_len, desk.records, desk.records_len);
+        const struct phel_run_answer e = phel_entry_run(desk.sender, now, budget, draining, DESK_RING, DESK_LOST,
+                                                        desk.records, desk.records_len);
         given_back(number, &e.refusal, &e.sender);
         check(same_ran(&e.done, &nothing), "zeros are due");
-    }
-    if (number == 0 && w.number == 0) {
-        model_run(&was, now, budget, draining, &by);
-        as_modelled();
-        check(!with_answer() || same_ran(&r, &by), "a run came to something else");
-        bounded(by.records, budget);
     }
     if (answer != NULL)
         *answer = r;
@@ -151,19 +131,15 @@ int do_run(uint64_t now, uint32_t budget, bool draining, struct phel_ran *answer
 
 int do_payload(uint32_t asked, struct phel_found *answer)
 {
-    const want w = want_payload(&desk.sender, seen(), asked);
-    struct phel_found f, by;
+    struct phel_payload_answer by;
+    struct phel_found f;
     int number;
     FILL(f);
     begin_call();
+    by = model_payload(was.sender, asked, WAS_RING, WAS_LOST, WAS_STORE);
     number = phel_sender_payload(&desk.sender, &desk.lent, asked, with_answer() ? &f : NULL, asked_why());
-    number = settle(E_PAYLOAD, number, w);
-    check_left(number, &f, sizeof f);
-    if (number == 0 && w.number == 0) {
-        model_payload(&was, asked, &by);
-        as_modelled();
-        check(!with_answer() || same_found(&f, &by), "the payload lies elsewhere");
-    }
+    number = settle(E_PAYLOAD, number, &by.refusal, &was.sender);
+    check_answer(number, &f, sizeof f, same_found(&f, &by.done));
     if (answer != NULL)
         *answer = f;
     return number;
@@ -171,19 +147,15 @@ int do_payload(uint32_t asked, struct phel_found *answer)
 
 int do_reports(struct phel_reports *answer)
 {
-    const want w = want_reports(&desk.sender, seen());
-    struct phel_reports r, by;
+    struct phel_reports_answer by;
+    struct phel_reports r;
     int number;
     FILL(r);
     begin_call();
+    by = model_reports(was.sender, WAS_RING, WAS_LOST);
     number = phel_sender_reports(&desk.sender, &desk.lent, with_answer() ? &r : NULL, asked_why());
-    number = settle(E_REPORTS, number, w);
-    check_left(number, &r, sizeof r);
-    if (number == 0 && w.number == 0) {
-        model_reports(&was, &by);
-        as_modelled();
-        check(!with_answer() || same_reports(&r, &by), "other reports");
-    }
+    number = settle(E_REPORTS, number, &by.refusal, &was.sender);
+    check_answer(number, &r, sizeof r, same_reports(&r, &by.done));
     if (answer != NULL)
         *answer = r;
     return number;

@@ -1,5 +1,5 @@
 /* damage.c: senders in many states; each word of each, of its ring and of its loss list is damaged in turn, and every
- * call is made on a fresh copy. refusals.c says what each must answer, before.c holds it against that. */
+ * call is made on a fresh copy. The model says what each must answer, before.c holds it against that. */
 #include "damage.h"
 
 const uint64_t ends[] = {
@@ -128,7 +128,7 @@ static void sweep(const struct state *s)
     front = s->sender.books.front;
     next = (front + s->sender.books.sent) & 0x7fffffff;
     snprintf(scene, sizeof scene, "the state: %s", s->name);
-    check(books_kept(&desk.sender, &desk.lent), "a state that breaks a rule");
+    check(model_reports(desk.sender, DESK_RING, DESK_LOST).refusal.number == 0, "a state that breaks a rule");
     for (size_t word = 0; word < words_of(); word++)
         for (size_t which = 0; which < damages(); which++)
             sweep_word(s, word, which);

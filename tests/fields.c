@@ -1,6 +1,6 @@
 /* fields.c: the fields of a sender, of timers and of answers: whether two agree in all of them, but for padding. */
 #include <string.h>
-#include "rules.h"
+#include "fields.h"
 
 #define FIELD(m) {#m, offsetof(struct phel_sender, m), sizeof(((struct phel_sender *)0)->m)}
 const struct field sender_fields[] = {
@@ -22,6 +22,11 @@ bool fields_complete(void)
     for (size_t i = 0; i < sender_fields_len; i++)
         bytes += sender_fields[i].bytes;
     return sizeof(size_t) != 8 || bytes + 8 == sizeof(struct phel_sender);
+}
+
+bool same_refusal(const struct phel_refusal *a, const struct phel_refusal *b)
+{
+    return a->number == b->number && a->first == b->first && a->second == b->second && a->third == b->third;
 }
 
 /* Whether two senders agree in every field. */

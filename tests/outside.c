@@ -3,6 +3,7 @@
  *   outside             the test
  *   outside --bent N    the test with the calls bent in the N-th of three ways (before.c): it must fail */
 #include "outside.h"
+#include "nulls.h"
 
 int main(int argc, char **argv)
 {
@@ -20,6 +21,8 @@ int main(int argc, char **argv)
     random_cases();
     timers_cases();
     damage_cases();
+    strcpy(scene, "NULL");
+    check(nulls_cases() == 0, "see above");
     strcpy(scene, "the tally");
     return tally() ? 0 : 1;
 }

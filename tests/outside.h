@@ -1,13 +1,15 @@
-/* outside.h: what the files of the outside test share. rules.h says what the library must answer and leave.
+/* outside.h: what the files of the outside test share. The model (model/model.h) says what the library must answer and
+ * leave.
  *   areas.c     lent areas that end, or begin, exactly at a page that can't be touched (pages.h)
  *   desk.c      a sender with all that it is lent
  *   before.c    what was there before a call, and what the call made of it
- *   calls.c     every call of the sender: made, and held against rules.h
+ *   calls.c     every call of the sender: made, and held against the model
  *   timers.c    the same for the timers, with their cases
  *   sessions.c  sessions with known answers
  *   refused.c   each refusal by name, short areas and lists
  *   random.c    random sessions
  *   damage.c    each word of what is kept or lent damaged in turn, and every call made on it; with states.c and asks.c
+ *   nulls.c     NULL for every pointer, the refusals' names, the version; it stands by itself (nulls.h)
  *   tally.c     what was called how often, and what failed
  *   outside.c   main */
 #ifndef OUTSIDE_H
@@ -16,7 +18,16 @@
 #include <stdio.h>
 #include <stdlib.h>
 #include <string.h>
-#include "rules.h"
+#include "fields.h"
+#include "model.h"
+
+#define BIT(n) ((uint64_t)1 << (n))
+
+/* The entries of the library. */
+enum entry {
+    E_NEW, E_MESSAGE, E_ACK, E_NAK, E_RUN, E_PAYLOAD, E_REPORTS, E_HEADER, E_TIMERS_NEW, E_NEXT_TIMER, E_CHECK_SND,
+    E_CHECK_FULL_ACK, E_CHECK_NAK, E_CHECK_STATISTICS, E_CHECK_IDLE, E_SND_PERIOD, E_UPDATE_RTT, E_RESET_EXP, ENTRIES
+};
 
 /* ---- areas.c */
 
@@ -79,34 +90,49 @@ int nak_two(uint32_t first, uint32_t second);
 
 /* ---- before.c */
 
-extern int bent;        /* which bend is in force, 0 for none */
-extern bool ask_all;    /* whether every call is given an answer and a why to fill; else some get NULL */
-extern want said;       /* the last why */
-extern struct copy was; /* what was there before the call; a model makes of it what must be there afterwards */
+/* A copy of what was there before a call: the sender, the areas, the lists for answers. The model works in it, and makes
+ * of it what must be there afterwards. */
+struct copy {
+    struct phel_sender sender;
+    uint64_t *ring;
+    uint32_t *lost;
+    uint8_t *store;
+    uint8_t *records;
+    uint32_t *runs;
+    size_t ring_len, lost_len, store_len, records_len, runs_len; /* 0 where NULL is lent, whatever its length says */
+};
+
+extern int bent;                 /* which bend is in force, 0 for none */
+extern bool ask_all;             /* whether every call is given an answer and a why to fill; else some get NULL */
+extern struct phel_refusal said; /* the last why */
+extern struct copy was;
+
+#define WAS_RING was.ring, was.ring_len
+#define WAS_LOST was.lost, was.lost_len
+#define WAS_STORE was.store, was.store_len
+#define DESK_RING desk.lent.ring, desk.lent.ring_len
+#define DESK_LOST desk.lent.lost, desk.lent.lost_len
+#define DESK_STORE desk.lent.store, desk.lent.store_len
 
 /* Copies what is kept and lent. */
 void begin_call(void);
 
 /* Whether the call is given an answer to fill, and its |why| or NULL. */
 bool with_answer(void);
-want *asked_why(void);
+struct phel_refusal *asked_why(void);
 
-/* The areas as document 01 judges them: NULL is an area of length 0, whatever its length says. */
-const struct phel_areas *seen(void);
+/* Holds a call against the model's: its number and values, the sender and all that is lent. The answer is the number. */
+int settle(enum entry e, int number, const struct phel_refusal *by, const struct phel_sender *left);
 
-/* Holds a call's number against what was wanted, and what a refused one left against the copy. */
-int settle(enum entry e, int number, want w);
-void settle_new(int number, want w);
+/* The same for a call that makes a sender. */
+void settle_new(int number, const struct phel_new_answer *by);
 
-/* An accepted call left what the model left of the copy. */
-void as_modelled(void);
-
-/* An answer of a refused call, or one that was not asked for, is as it was filled: with 0xee. */
-void check_left(int number, const void *answer, size_t bytes);
+/* An answer is the model's where the call was accepted and asked for one; else as it was filled, with 0xee. */
+void check_answer(int number, const void *answer, size_t bytes, bool same);
 
 /* Whether a refused call is made once more by the entry, which takes no NULL; and that it gave back what it got. */
 bool once_more(int number);
-void given_back(int number, const want *told, const struct phel_sender *sender);
+void given_back(int number, const struct phel_refusal *told, const struct phel_sender *sender);
 
 /* ---- calls.c */
 

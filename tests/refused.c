@@ -19,6 +19,8 @@ static void bad_settings(void)
     check(do_new(&small, PHEL_MODE_INPUT, BIT(40), 10000) == 0, "the highest rate and overhead");
     check(do_new(&small, PHEL_MODE_MAX, BIT(40) + 1, 0) == PHEL_BAD_SETTING, "a rate too high");
     check(do_new(&small, PHEL_MODE_UNLIMITED, 1, 0) == PHEL_BAD_SETTING, "a rate without use");
+    check(do_new(&small, PHEL_MODE_UNLIMITED, 0, 1) == PHEL_BAD_SETTING, "an overhead without use");
+    check(do_new(&small, PHEL_MODE_MAX, 0, 1) == PHEL_BAD_SETTING, "another");
     check(do_new(&small, 4, 0, 0) == PHEL_BAD_SETTING, "no mode");
 }
 

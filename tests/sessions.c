@@ -1,4 +1,4 @@
-/* sessions.c: sessions whose answers are written down here, beside what the models say. */
+/* sessions.c: sessions whose answers are written down here, beside what the model says. */
 #include "outside.h"
 
 /* "Figures from the bench". */

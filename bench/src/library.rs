@@ -1,7 +1,7 @@
 //! The library, called through library.c.
 
 use std::{
-    ffi::{c_int, c_void},
+    os::raw::{c_int, c_void},
     time::{Duration, Instant},
 };
 

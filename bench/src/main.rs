@@ -39,9 +39,12 @@ fn run(calls: &str, template: &str, page: &str) -> Result<(), String> {
 
 fn main() -> ExitCode {
     let words: Vec<String> = env::args().skip(1).collect();
-    let [calls, template, page] = &words[..] else {
-        eprintln!("bench: CALLS TEMPLATE PAGE");
-        return ExitCode::from(2);
+    let (calls, template, page) = match &words[..] {
+        [calls, template, page] => (calls, template, page),
+        _ => {
+            eprintln!("bench: CALLS TEMPLATE PAGE");
+            return ExitCode::from(2);
+        }
     };
     match run(calls, template, page) {
         Ok(()) => ExitCode::SUCCESS,

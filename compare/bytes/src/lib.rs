@@ -15,11 +15,7 @@ impl Bytes {
     pub fn split_to(&mut self, at: usize) -> Bytes {
         assert!(at <= self.len(), "split_to out of bounds");
         let cut = self.start + at;
-        let first = Bytes {
-            area: Arc::clone(&self.area),
-            start: self.start,
-            end: cut,
-        };
+        let first = Bytes { area: Arc::clone(&self.area), start: self.start, end: cut };
         self.start = cut;
         first
     }
@@ -35,11 +31,7 @@ impl Deref for Bytes {
 
 impl From<&[u8]> for Bytes {
     fn from(bytes: &[u8]) -> Self {
-        Bytes {
-            area: Arc::from(bytes),
-            start: 0,
-            end: bytes.len(),
-        }
+        Bytes { area: Arc::from(bytes), start: 0, end: bytes.len() }
     }
 }
 

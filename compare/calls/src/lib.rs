@@ -1,20 +1,26 @@
-//! The calls that scripts make, as traits and plain data. A sender of any make
-//! (the Rust in either copy, the model of document 01, a linked library)
-//! implements `Sender` and `Leaves`; the harness knows it by these alone.
+//! The calls that scripts make and what they answer, as plain data, with how both
+//! are written (docs/SCRIPTS.md). A sender of any make implements `Sender` and
+//! `Leaves`; the harness knows it by these alone.
 //!
 //! Times of the sender are microseconds since start, those of timers are
 //! nanoseconds. Sequence and message numbers are the wrapped ones of the wire.
 
-mod bends;
+mod answer;
+mod call;
+mod field;
 mod leaves;
+mod parties;
 mod refusal;
-mod script;
 mod sender;
+mod sender_fields;
+mod settings;
 mod state;
 
-pub use bends::*;
+pub use answer::*;
+pub use call::*;
+pub use field::*;
 pub use leaves::*;
+pub use parties::*;
 pub use refusal::*;
-pub use script::*;
 pub use sender::*;
 pub use state::*;

@@ -1,6 +1,4 @@
-//! The sender's calls, their arguments and their answers.
-
-use crate::{Refusal, State};
+//! The sender's arguments and answers.
 
 /// How the allowed rate is found (document 01, Pacing). Rates are bytes per
 /// second, overheads percent.
@@ -10,6 +8,29 @@ pub enum Mode {
     Max(u64),
     Unlimited,
     Estimated { expected: u64, overhead: u64 },
+}
+
+impl Mode {
+    /// Number, rate and overhead, as include/phelgomrit.h has them.
+    pub fn numbers(self) -> (u32, u64, u64) {
+        match self {
+            Mode::Input { rate, overhead } => (0, rate, overhead),
+            Mode::Estimated { expected, overhead } => (1, expected, overhead),
+            Mode::Max(rate) => (2, rate, 0),
+            Mode::Unlimited => (3, 0, 0),
+        }
+    }
+
+    pub fn of(mode: u32, rate: u64, overhead: u64) -> Option<Mode> {
+        let expected = rate;
+        match (mode, rate, overhead) {
+            (0, ..) => Some(Mode::Input { rate, overhead }),
+            (1, ..) => Some(Mode::Estimated { expected, overhead }),
+            (2, _, 0) => Some(Mode::Max(rate)),
+            (3, 0, 0) => Some(Mode::Unlimited),
+            _ => None,
+        }
+    }
 }
 
 #[derive(Clone, Copy, Debug, PartialEq, Eq)]
@@ -24,7 +45,22 @@ pub struct Settings {
     pub mode: Mode,
 }
 
-#[derive(Clone, Copy, Debug, PartialEq, Eq)]
+impl Default for Settings {
+    fn default() -> Self {
+        Settings {
+            first: 0,
+            size: 1_456,
+            buffer: 8_192,
+            window: 8_192,
+            latency: 120_000,
+            overhead: 0,
+            id: 0,
+            mode: Mode::Unlimited,
+        }
+    }
+}
+
+#[derive(Clone, Copy, Debug, Default, PartialEq, Eq)]
 pub struct Rtt {
     pub mean: u32,
     pub variance: u32,
@@ -37,6 +73,45 @@ pub struct Ack {
     pub rtt: Option<Rtt>,
 }
 
+/// The payload of so many bytes that a seed stands for.
+pub fn seeded(length: u32, seed: u32) -> Vec<u8> {
+    let byte = |i: u64| (u64::from(seed) + 131 * i + i / 251) as u8;
+    (0..u64::from(length)).map(byte).collect()
+}
+
+/// A payload, written out or by length and seed.
+#[derive(Clone, Debug, PartialEq, Eq)]
+pub enum Payload {
+    Seeded { length: u32, seed: u32 },
+    Given(Vec<u8>),
+}
+
+impl Payload {
+    pub fn length(&self) -> usize {
+        match self {
+            Payload::Seeded { length, .. } => *length as usize,
+            Payload::Given(bytes) => bytes.len(),
+        }
+    }
+
+    pub fn bytes(&self) -> Vec<u8> {
+        match self {
+            Payload::Seeded { length, seed } => seeded(*length, *seed),
+            Payload::Given(bytes) => bytes.clone(),
+        }
+    }
+}
+
+/// Room of a list lent for an answer: ample where a script doesn't say it.
+pub const AMPLE: u64 = 1 << 40;
+/// A loss report's words, and how many runs its answer list can take.
+#[derive(Clone, Debug, PartialEq, Eq)]
+pub struct Report {
+    pub words: Vec<u32>,
+    pub room: u64,
+}
+
+/// What a run is called with.
 #[derive(Clone, Copy, Debug, PartialEq, Eq)]
 pub struct Run {
     pub now: u64,
@@ -98,6 +173,11 @@ impl LossRun {
 /// One action record of document 01.
 pub type Record = [u8; 24];
 
+/// Four bytes of a record, the lowest first.
+pub fn word(record: &Record, at: usize) -> u32 {
+    u32::from_le_bytes([record[at], record[at + 1], record[at + 2], record[at + 3]])
+}
+
 /// Answer of `run`: the records, and the budget less the sends.
 #[derive(Clone, Debug, PartialEq, Eq)]
 pub struct Ran {
@@ -120,29 +200,4 @@ pub struct Reports {
     pub bytes: u64,
     /// Microseconds.
     pub time: u64,
-}
-
-/// A sender, started by its maker with `Settings`.
-pub trait Sender {
-    fn message(&mut self, time: u64, now: u64, payload: &[u8]) -> Result<Pushed, Refusal>;
-    fn ack(&mut self, ack: &Ack) -> Result<Acked, Refusal>;
-    /// `room` is the number of runs that the lent answer list can take.
-    fn nak(&mut self, words: &[u32], room: u64) -> Result<Vec<LossRun>, Refusal>;
-    fn run(&mut self, run: &Run) -> Result<Ran, Refusal>;
-    fn reports(&self) -> Reports;
-    /// The payload of a packet that is buffered, or flushed since the last
-    /// accepted message.
-    fn payload(&self, number: u32) -> Result<Vec<u8>, Refusal>;
-    /// What the last accepted run sent, in its order.
-    fn sent(&self) -> Vec<Sent>;
-    /// The books. `out` is overwritten.
-    fn state(&self, out: &mut State);
-    /// Not a call of the sender: sets the message counter, so that its wrap
-    /// can be reached.
-    fn preset_message(&mut self, number: u32);
-    /// How often two ways through the same sender were found to agree, where
-    /// there are two.
-    fn agreed(&self) -> u64 {
-        0
-    }
 }

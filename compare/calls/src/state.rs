@@ -1,7 +1,7 @@
 //! The books of a sender, of its pacing and of its timers, as they are
 //! compared.
 
-use crate::Rtt;
+use crate::sender::Rtt;
 
 #[derive(Clone, Copy, Debug, PartialEq, Eq)]
 pub struct PacketState {
@@ -31,7 +31,7 @@ pub struct PacingState {
     pub byte_variance: u64,
 }
 
-#[derive(Clone, Debug, PartialEq, Eq)]
+#[derive(Clone, Debug, Default, PartialEq, Eq)]
 pub struct State {
     pub packets: Vec<PacketState>,
     pub next_unsent: u32,
@@ -46,26 +46,6 @@ pub struct State {
     /// Resend times kept, for whatever numbers.
     pub resend_entries: u64,
     pub pacing: PacingState,
-}
-
-impl Default for State {
-    fn default() -> Self {
-        State {
-            packets: Vec::new(),
-            next_unsent: 0,
-            next_number: 0,
-            next_message: 0,
-            lost: Vec::new(),
-            rtt: Rtt {
-                mean: 0,
-                variance: 0,
-            },
-            bytes: 0,
-            expected_full: 0,
-            resend_entries: 0,
-            pacing: PacingState::default(),
-        }
-    }
 }
 
 #[derive(Clone, Copy, Debug, PartialEq, Eq)]
@@ -88,20 +68,11 @@ pub struct TimersState {
 impl TimersState {
     /// The six timers.
     pub fn all(&self) -> [TimerState; 6] {
-        [
-            self.snd,
-            self.full_ack,
-            self.nak,
-            self.exp,
-            self.peer_idle,
-            self.statistics,
-        ]
+        [self.snd, self.full_ack, self.nak, self.exp, self.peer_idle, self.statistics]
     }
 }
 
 /// The sum over a payload that `PacketState` holds (FNV-1a).
 pub fn payload_sum(payload: &[u8]) -> u64 {
-    payload.iter().fold(0xcbf2_9ce4_8422_2325, |sum, byte| {
-        (sum ^ u64::from(*byte)).wrapping_mul(0x0000_0100_0000_01b3)
-    })
+    payload.iter().fold(0xcbf2_9ce4_8422_2325, |sum, byte| (sum ^ u64::from(*byte)).wrapping_mul(0x0000_0100_0000_01b3))
 }

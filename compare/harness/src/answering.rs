@@ -1,93 +1,81 @@
 //! Answers a script with one party.
 
-use calls::{Refusal, Sender, Settings, State};
+use calls::{call_sender, Answer, Call, Leaves, Sender, SenderCall};
 
 use crate::{
-    answer::Answer,
-    call::{Call, SenderCall},
-    domain,
     panics::guarded,
-    party::{call_sender, Bench, Party},
+    party::{model, Party},
 };
 
 /// A party at work on a script.
-struct Desk<'a> {
-    party: &'a Party,
+struct Desk {
+    party: Party,
     sender: Option<Box<dyn Sender>>,
-    bench: Bench<'a>,
+    leaves: Box<dyn Leaves>,
 }
 
-impl Desk<'_> {
-    /// The refusal, where the party leaves it to document 01.
-    fn left(&self, refusal: Result<(), Refusal>) -> Result<(), Refusal> {
-        if self.party.refuses {
-            return Ok(());
-        }
-        refusal
-    }
-
-    fn make(&mut self, settings: &Settings) -> Answer {
-        self.sender = None;
-        let in_range = self.left(domain::settings(settings));
-        match in_range.and_then(|()| self.party.sender(settings)) {
-            Ok(sender) => {
-                self.sender = Some(sender);
-                Answer::Done
-            }
-            Err(refusal) => Answer::Refused(refusal),
-        }
-    }
-
-    fn call_sender(&mut self, call: &SenderCall) -> Answer {
-        let Some(sender) = self.sender.as_ref() else {
-            return Answer::Nothing;
-        };
-        let mut state = State::default();
-        sender.state(&mut state);
-        match (self.left(domain::refusal(call, &state)), &mut self.sender) {
-            (Ok(()), Some(sender)) => call_sender(&mut **sender, call),
-            (Err(refusal), _) => Answer::Refused(refusal),
-            _ => Answer::Nothing,
-        }
+impl Desk {
+    fn of(party: Party) -> Self {
+        Desk { party, sender: None, leaves: party.leaves() }
     }
 
     fn call(&mut self, call: &Call) -> Answer {
-        match call {
-            Call::New(settings) => self.make(settings),
-            Call::Sender(call) => self.call_sender(call),
-            Call::Leaf(call) => {
-                let refusal = domain::leaf_refusal(call, self.bench.pacing_state());
-                match self.left(refusal) {
-                    Ok(()) => self.bench.call(call),
-                    Err(refusal) => Answer::Refused(refusal),
-                }
+        match (call, &mut self.sender) {
+            (Call::Leaf(call), _) => self.leaves.call(call),
+            (Call::Sender(SenderCall::New { settings }), _) => {
+                self.sender = None;
+                Answer::of(self.party.sender(settings), |sender| {
+                    self.sender = Some(sender);
+                    Answer::Done
+                })
             }
+            (Call::Sender(_), None) => Answer::Nothing,
+            (Call::Sender(call), Some(sender)) => call_sender(&mut **sender, call),
+        }
+    }
+}
+
+/// A party, beside the model where it leaves refusals to document 01: it isn't
+/// given the calls that the model refuses by their arguments.
+struct Answerer {
+    desk: Desk,
+    document: Option<Desk>,
+}
+
+impl Answerer {
+    fn of(party: Party) -> Self {
+        let document = (!party.refuses()).then(|| Desk::of(model()));
+        Answerer { desk: Desk::of(party), document }
+    }
+
+    fn call(&mut self, call: &Call) -> Answer {
+        let document = self.document.as_mut().map(|document| document.call(call));
+        match document {
+            Some(answer) if answer.refused().is_some() => {
+                if let Call::Sender(SenderCall::New { .. }) = call {
+                    self.desk.sender = None;
+                }
+                answer
+            }
+            _ => self.desk.call(call),
         }
     }
 }
 
 /// The answers alone.
-pub fn plain(party: &Party, calls: &[Call]) -> String {
-    let mut desk = Desk {
-        party,
-        sender: None,
-        bench: party.bench(),
-    };
-    let line = |call: &Call| format!("{}\n", desk.call(call));
+pub fn plain(party: Party, calls: &[Call]) -> String {
+    let mut answerer = Answerer::of(party);
+    let line = |call: &Call| format!("{}\n", answerer.call(call));
     calls.iter().map(line).collect()
 }
 
 /// The answers, one after another, up to a panic; its message then.
-pub fn answers(party: &Party, calls: &[(usize, Call)]) -> (String, Option<String>) {
-    let mut desk = Desk {
-        party,
-        sender: None,
-        bench: party.bench(),
-    };
+pub fn answers(party: Party, calls: &[(usize, Call)]) -> (String, Option<String>) {
+    let mut answerer = Answerer::of(party);
     let mut text = String::new();
     for (line, call) in calls {
         text += &format!("> {call}\n");
-        match guarded(|| desk.call(call)) {
+        match guarded(|| answerer.call(call)) {
             Ok(answer) => text += &format!("{answer}\n"),
             Err(panic) => return (text, Some(format!("line {line}: {panic}"))),
         }

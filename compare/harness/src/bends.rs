@@ -2,97 +2,83 @@
 //! library after another, and sees that the generator's scripts notice.
 
 use calls::Area;
-use model::{Bend, BENDS};
+use entries::{Bend, BENDS};
 
-use crate::{
-    generate::Generator,
-    generate_leaves::LeafGenerator,
-    leaf_trial, modes,
-    party::{self, Party},
-    reach::Reached,
-    trial::{play, Tally},
-};
+use crate::{party::UNMODIFIED, random, reach::Reached, scores::Scores, trial::Parties};
 
 /// Scripts within which a bend must be noticed.
 const MOST_SCRIPTS: u64 = 12_000;
 
+/// A bend: its name, where it shows, what it does, and the parties with it; none
+/// where the library isn't at hand.
+pub struct Bent {
+    pub name: String,
+    pub area: Area,
+    pub text: &'static str,
+    pub parties: Option<Parties>,
+}
+
 /// Whether the bent party was noticed, and after how many calls.
-fn notice(bent: Party, area: Area) -> (bool, u64) {
-    match area {
-        Area::Sender => notice_sender(bent),
-        leaf => notice_leaf(bent, leaf),
-    }
-}
-
-fn notice_sender(bent: Party) -> (bool, u64) {
-    let parties = modes::parties(bent);
-    let mut reached = Reached::default();
-    let mut tally = Tally::default();
+fn notice(parties: &Parties, area: Area) -> (bool, u64) {
+    let (mut scores, mut calls) = (Scores::default(), 0);
     for seed in 0..MOST_SCRIPTS {
-        let mut generator = Generator::new(seed);
-        let settings = generator.settings;
-        let source = &mut |state: &_| generator.next(state);
-        if play(&parties, settings, source, &mut tally, &mut reached).is_err() {
-            return (true, tally.calls);
+        let noticed = match area {
+            Area::Sender => random::script(parties, seed, &mut scores).is_err(),
+            leaf => {
+                let reached = &mut Reached::default();
+                let played = random::leaf_script(parties, Some(UNMODIFIED), (leaf, seed), reached);
+                calls += played.as_ref().map_or(0, |calls| calls.len() as u64);
+                played.is_err()
+            }
+        };
+        if noticed {
+            return (true, scores.calls + calls);
         }
     }
-    (false, tally.calls)
+    (false, scores.calls + calls)
 }
-
-fn notice_leaf(bent: Party, leaf: Area) -> (bool, u64) {
-    let rust = party::unmodified();
-    let mut reached = Reached::default();
-    let mut compared = 0;
-    for seed in 0..MOST_SCRIPTS {
-        let mut generator = LeafGenerator::new(leaf, seed);
-        let source = &mut |books: &_| generator.next(books);
-        match leaf_trial::play(&rust, &bent, source, &mut reached) {
-            Ok(calls) => compared += calls.len() as u64,
-            Err(_) => return (true, compared),
-        }
-    }
-    (false, compared)
-}
-
-/// A bend: its name, where it shows, what it does, and the party that has it.
-pub type Bent = (String, Area, &'static str, Option<Party>);
 
 /// Prints how many are noticed; gives how many are not.
 fn unnoticed(what: &str, bends: Vec<Bent>) -> usize {
     let (all, mut unnoticed) = (bends.len(), 0);
     let mut latest = (0, "");
-    for (name, area, text, bent) in bends {
-        let (noticed, calls) = bent.map_or((false, 0), |bent| notice(bent, area));
+    for bent in bends {
+        let parties = bent.parties.as_ref();
+        let (noticed, calls) = parties.map_or((false, 0), |parties| notice(parties, bent.area));
         if !noticed {
             unnoticed += 1;
-            println!("{what}: not noticed: {text} ({name}), {calls} calls");
+            println!("{what}: not noticed: {} ({}), {calls} calls", bent.text, bent.name);
         } else if calls >= latest.0 {
-            latest = (calls, text);
+            latest = (calls, bent.text);
         }
     }
-    println!(
-        "{what} noticed {} of {all}; the last after {} calls: {}",
-        all - unnoticed,
-        latest.0,
-        latest.1
-    );
+    let noticed = all - unnoticed;
+    println!("{what} noticed {noticed} of {all}; the last after {} calls: {}", latest.0, latest.1);
     unnoticed
 }
 
-/// The model's bent rules.
+/// The model's bent rules, without the library.
 fn bent_rules() -> Vec<Bent> {
-    let bent = |(bend, area, text): &(Bend, Area, &'static str)| {
-        (format!("{bend:?}"), *area, *text, Some(party::model(*bend)))
+    let bent = |rule: entries::Rule| Bent {
+        name: rule.name.to_string(),
+        area: rule.area,
+        text: rule.text,
+        parties: Some(Parties { model: entries::model(rule.number), proved: None }),
     };
-    BENDS.iter().map(bent).collect()
+    entries::rules().into_iter().map(bent).collect()
 }
 
 /// The bent answers of the proved library.
 fn bent_answers() -> Vec<Bent> {
-    let bent = |(bend, area, text): &(rattle::Bend, Area, &'static str)| {
-        (format!("{bend:?}"), *area, *text, party::rattle(*bend))
+    let parties =
+        |bend: Bend| entries::proved(bend).map(|proved| Parties { model: entries::model(0), proved: Some(proved) });
+    let bent = |(bend, area, text): &(Bend, Area, &'static str)| Bent {
+        name: format!("{bend:?}"),
+        area: *area,
+        text,
+        parties: parties(*bend),
     };
-    rattle::BENDS.iter().map(bent).collect()
+    BENDS.iter().map(bent).collect()
 }
 
 /// How many bent rules pass unnoticed.
@@ -102,7 +88,7 @@ pub fn rules() -> usize {
 
 /// How many bent answers pass unnoticed, of the leaves and of the sender.
 pub fn answers() -> usize {
-    let sender = |bent: &Bent| bent.1 == Area::Sender;
+    let sender = |bent: &Bent| bent.area == Area::Sender;
     let (of_sender, of_leaves) = bent_answers().into_iter().partition(sender);
     unnoticed("bent answers of the proved leaves", of_leaves)
         + unnoticed("bent answers of the proved sender", of_sender)
@@ -111,13 +97,13 @@ pub fn answers() -> usize {
 /// The bend of that name.
 pub fn named(name: &str) -> Option<Bent> {
     let mut all = bent_rules().into_iter().chain(bent_answers());
-    all.find(|bent| bent.0 == name)
+    all.find(|bent| bent.name == name)
 }
 
 /// Prints the names of all bends.
 pub fn list() {
     for (what, bends) in [("rules", bent_rules()), ("answers", bent_answers())] {
-        let names: Vec<String> = bends.into_iter().map(|bent| bent.0).collect();
+        let names: Vec<String> = bends.into_iter().map(|bent| bent.name).collect();
         println!("the bent {what}: {}", names.join(" "));
     }
 }

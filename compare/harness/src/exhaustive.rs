@@ -1,12 +1,11 @@
 //! Every script of four calls from a small alphabet, and so every shorter one
 //! as its beginning.
 
-use calls::{Ack, Mode, Rtt, Settings};
+use calls::{Ack, Mode, Payload, Report, Rtt, Run, SenderCall, Settings, State, AMPLE};
 
 use crate::{
-    call::{Payload, SenderCall},
-    reach::Reached,
-    trial::{play, Failure, Parties, Tally},
+    scores::{Failure, Scores},
+    trial::Parties,
 };
 
 const LENGTH: u32 = 4;
@@ -23,53 +22,33 @@ fn starts() -> [Settings; 3] {
         id: 7,
         mode: Mode::Unlimited,
     };
-    let single = Settings {
-        first: 15,
-        buffer: 0,
-        window: 0,
-        ..small
-    };
-    let roomy = Settings {
-        first: 15,
-        buffer: 4,
-        window: 8,
-        latency: 1_000_000,
-        ..small
-    };
+    let single = Settings { first: 15, buffer: 0, window: 0, ..small };
+    let roomy = Settings { first: 15, buffer: 4, window: 8, latency: 1_000_000, ..small };
     [small, single, roomy]
 }
 
 fn message(time: u64, length: u32) -> SenderCall {
-    SenderCall::Message {
-        time,
-        now: time,
-        payload: Payload::Seeded { length, seed: 3 },
-    }
+    SenderCall::Message { time, now: time, payload: Payload::Seeded { length, seed: 3 } }
 }
 
 fn ack(number: u32, full: Option<u32>, rtt: Option<Rtt>) -> SenderCall {
-    SenderCall::Ack(Ack { number, full, rtt })
+    let ack = Ack { number, full, rtt };
+    SenderCall::Ack { ack }
 }
 
 fn nak(words: Vec<u32>) -> SenderCall {
-    SenderCall::Nak { words, room: None }
+    let report = Report { words, room: AMPLE };
+    SenderCall::Nak { report }
 }
 
 fn run(now: u64, budget: u32, draining: bool) -> SenderCall {
-    SenderCall::Run {
-        now,
-        budget,
-        draining,
-        room: None,
-    }
+    let run = Run { now, budget, draining, room: AMPLE };
+    SenderCall::Run { run }
 }
 
 fn alphabet(settings: &Settings) -> Vec<SenderCall> {
     let number = |ahead: u32| (settings.first + ahead) % (1 << 31);
-    let quick = Rtt {
-        mean: 10,
-        variance: 1,
-    };
+    let quick = Rtt { mean: 10, variance: 1 };
     let range = number(0) | 1 << 31;
     vec![
         message(1_000, 0),
@@ -90,26 +69,26 @@ fn alphabet(settings: &Settings) -> Vec<SenderCall> {
         run(1_001_000, 2, true),
         run(1_001_001, 1, false),
         run(1_500_000, 9, true),
-        SenderCall::Reports,
-        SenderCall::Payload(number(0)),
+        SenderCall::Reports {},
+        SenderCall::Payload { number: number(0) },
     ]
 }
 
 /// Plays them all, or to the first that fails.
-pub fn all(parties: &Parties, tally: &mut Tally, reached: &mut Reached) -> Result<(), Failure> {
+pub fn all(parties: &Parties, scores: &mut Scores) -> Result<(), Failure> {
     for settings in starts() {
         let alphabet = alphabet(&settings);
         let letters = alphabet.len();
         for code in 0..letters.pow(LENGTH) {
             let mut rest = code;
             let mut left = LENGTH;
-            let mut source = |_: &calls::State| {
+            let mut source = |_: &State| {
                 let call = &alphabet[rest % letters];
                 rest /= letters;
                 left = left.checked_sub(1)?;
                 Some(call.clone())
             };
-            play(parties, settings, &mut source, tally, reached)?;
+            parties.play(settings, &mut source, scores)?;
         }
     }
     Ok(())

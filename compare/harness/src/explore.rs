@@ -4,15 +4,14 @@
 
 use std::collections::BTreeMap;
 
-use calls::{Settings, State};
+use calls::{call_sender, Answer, SenderCall, Settings, State};
 
 use crate::{
-    answer::Answer,
-    call::{Call, SenderCall},
     domain,
     generate::Generator,
     panics::guarded,
-    party::{call_sender, repaired, unmodified},
+    party::{model, Party, REPAIRED, UNMODIFIED},
+    scores::written,
     shrink::shrink,
 };
 
@@ -59,23 +58,21 @@ fn diverge(
     until: Until,
     calls: &mut dyn FnMut(&State) -> Option<SenderCall>,
 ) -> Option<Divergence> {
-    let (Ok(mut a), Ok(mut b)) = (unmodified().sender(settings), repaired().sender(settings))
-    else {
-        return None;
-    };
-    let mut state = State::default();
-    let mut runs = None;
+    let sender = |party: Party| party.sender(settings).ok();
+    let (mut a, mut b) = (sender(UNMODIFIED)?, sender(REPAIRED)?);
+    let mut document = sender(model())?;
+    let (mut state, mut runs) = (State::default(), None);
     b.state(&mut state);
     while let Some(call) = calls(&state) {
-        let inside =
-            domain::refusal(&call, &state).is_ok() && domain::admits(&call, &state, settings, runs);
-        if !inside {
+        if !domain::admits(&call, &state, settings, runs) {
+            continue;
+        }
+        if call_sender(&mut *document, &call).refused().is_some() {
             continue;
         }
         let right = call_sender(&mut *b, &call);
         let left = guarded(|| call_sender(&mut *a, &call));
-        let kind = kind(&call, &left, &right, until);
-        if let Some(kind) = kind {
+        if let Some(kind) = kind(&call, &left, &right, until) {
             return Some(Divergence {
                 kind,
                 unmodified: left.map_or_else(|text| text, |answer| answer.to_string()),
@@ -83,21 +80,13 @@ fn diverge(
             });
         }
         b.state(&mut state);
-        if let SenderCall::Run { now, .. } = &call {
-            runs = Some(domain::runs_with(runs, *now));
-        }
-        runs = runs.filter(|_| !state.packets.is_empty());
+        runs = domain::runs_after(runs, &call, &state);
     }
     None
 }
 
 /// The kind of difference between two answers, if it is looked for.
-fn kind(
-    call: &SenderCall,
-    left: &Result<Answer, String>,
-    right: &Answer,
-    until: Until,
-) -> Option<String> {
+fn kind(call: &SenderCall, left: &Result<Answer, String>, right: &Answer, until: Until) -> Option<String> {
     match left {
         Err(text) => Some(format!("{}: panic at {}", name(call), place(text))),
         Ok(left) if left != right && until == Until::Difference => {
@@ -126,7 +115,7 @@ type Found = BTreeMap<String, (Settings, Vec<SenderCall>)>;
 fn search(seed: u64, until: Until, found: &mut Found) {
     let mut generator = Generator::new(seed);
     let settings = generator.settings;
-    if domain::settings(&settings).is_err() || settings.buffer > 64 {
+    if model().sender(&settings).is_err() || settings.buffer > 64 {
         return;
     }
     let mut calls = Vec::new();
@@ -135,15 +124,15 @@ fn search(seed: u64, until: Until, found: &mut Found) {
         calls.push(call.clone());
         Some(call)
     });
-    let Some(kind) = divergence.map(|divergence| divergence.kind) else {
-        return;
+    let kind = match divergence {
+        Some(divergence) => divergence.kind,
+        None => return,
     };
     let mut same = |tried: &[SenderCall]| {
-        diverge_list(&settings, until, tried).is_some_and(|divergence| divergence.kind == kind)
+        let divergence = diverge_list(&settings, until, tried);
+        divergence.map_or(false, |divergence| divergence.kind == kind)
     };
-    let best = found
-        .get(&kind)
-        .map_or(usize::MAX, |(_, calls)| calls.len());
+    let best = found.get(&kind).map_or(usize::MAX, |(_, calls)| calls.len());
     if best <= 3 {
         return;
     }
@@ -155,18 +144,12 @@ fn search(seed: u64, until: Until, found: &mut Found) {
 
 /// Prints each kind once.
 pub fn all() {
-    for (until, what) in [
-        (Until::Panic, "panics"),
-        (Until::Difference, "first differences"),
-    ] {
+    for (until, what) in [(Until::Panic, "panics"), (Until::Difference, "first differences")] {
         let mut found = Found::new();
         for seed in 0..SCRIPTS {
             search(seed, until, &mut found);
         }
-        println!(
-            "\n# {what} of the unmodified copy after a removal, by kind: {}",
-            found.len()
-        );
+        println!("\n# {what} of the unmodified copy after a removal, by kind: {}", found.len());
         for (settings, calls) in found.values() {
             show(settings, until, calls);
         }
@@ -174,14 +157,9 @@ pub fn all() {
 }
 
 fn show(settings: &Settings, until: Until, calls: &[SenderCall]) {
-    let Some(divergence) = diverge_list(settings, until, calls) else {
-        return;
-    };
-    println!("\n## {}", divergence.kind);
-    println!("{}", Call::New(*settings));
-    for call in calls {
-        println!("{call}");
+    if let Some(divergence) = diverge_list(settings, until, calls) {
+        println!("\n## {}\n{}", divergence.kind, written(*settings, calls));
+        println!("unmodified: {}", divergence.unmodified);
+        println!("repaired: {}", divergence.repaired);
     }
-    println!("unmodified: {}", divergence.unmodified);
-    println!("repaired: {}", divergence.repaired);
 }

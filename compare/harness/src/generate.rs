@@ -1,23 +1,20 @@
 //! Random scripts for the sender, near the limits of its rules. The next call
 //! depends on the books, so that ACKs, losses and times hit what is there.
 
-use calls::{Ack, Rtt, Settings, State};
+use calls::{Ack, Payload, Rtt, Run, SenderCall, Settings, State, AMPLE};
 
 use crate::{
-    call::{Payload, SenderCall},
     domain::late_window,
-    generate_start::{clock, settings},
+    generate_faulty::faulty,
+    generate_losses::report,
+    generate_start::{clock, settings, NUMBERS, STAMPS, TIMES},
     rng::Rng,
 };
 
-pub const NUMBERS: u64 = 1 << 31;
-pub const STAMPS: u64 = 1 << 32;
-pub const TIMES: u64 = 1 << 48;
-
 pub struct Generator {
-    pub(crate) rng: Rng,
+    rng: Rng,
     pub settings: Settings,
-    pub(crate) clock: u64,
+    clock: u64,
     left: u64,
     closing: bool,
     first: bool,
@@ -39,16 +36,7 @@ impl Generator {
         let clock = clock(&mut rng);
         let left = if large { 24 } else { rng.within(4, 120) };
         let calm = rng.once_in(2);
-        Generator {
-            rng,
-            settings,
-            clock,
-            left,
-            closing: false,
-            first: true,
-            calm,
-            large,
-        }
+        Generator { rng, settings, clock, left, closing: false, first: true, calm, large }
     }
 
     pub fn next(&mut self, state: &State) -> Option<SenderCall> {
@@ -60,7 +48,7 @@ impl Generator {
             self.first = false;
             if self.rng.once_in(4) {
                 let number = (1 << 26) - self.rng.within(1, 6) as u32;
-                return Some(SenderCall::PresetMessage(number));
+                return Some(SenderCall::PresetMessage { number });
             }
         }
         self.closing |= self.rng.once_in(60);
@@ -70,10 +58,10 @@ impl Generator {
             0..=27 => self.message(state),
             28..=61 => self.run(state),
             62..=76 => self.ack(state),
-            77..=90 => self.nak(state),
-            91..=93 => SenderCall::Reports,
+            77..=90 => report(&mut self.rng, self.large, state),
+            91..=93 => SenderCall::Reports {},
             94..=96 => self.payload(state),
-            _ => self.faulty(state),
+            _ => faulty(&mut self.rng, self.clock, state),
         };
         Some(call)
     }
@@ -132,9 +120,7 @@ impl Generator {
         let time = match rng.below(12) {
             0 => self.clock.saturating_sub(rng.below(2_000)),
             1 => self.clock + rng.below(3_000),
-            2 => self
-                .clock
-                .saturating_sub(rng.below(late_window(&self.settings))),
+            2 => self.clock.saturating_sub(rng.below(late_window(&self.settings))),
             _ => self.clock,
         };
         let now = match rng.below(10) {
@@ -144,10 +130,7 @@ impl Generator {
         SenderCall::Message {
             time: time.min(TIMES - 1),
             now: now.min(TIMES - 1),
-            payload: Payload::Seeded {
-                length: length as u32,
-                seed: rng.below(1 << 20) as u32,
-            },
+            payload: Payload::Seeded { length: length as u32, seed: rng.below(1 << 20) as u32 },
         }
     }
 
@@ -163,16 +146,17 @@ impl Generator {
         };
         let needed = budget.min(buffered) + 3;
         let room = match rng.below(40) {
-            0 => Some(needed),
-            1 => Some(rng.below(needed)),
-            _ => None,
+            0 => needed,
+            1 => rng.below(needed),
+            _ => AMPLE,
         };
-        SenderCall::Run {
+        let run = Run {
             now: self.clock,
             budget: budget as u32,
             draining: rng.below(10) < if self.closing { 8 } else { 1 },
             room,
-        }
+        };
+        SenderCall::Run { run }
     }
 
     fn ack(&mut self, state: &State) -> SenderCall {
@@ -203,62 +187,12 @@ impl Generator {
             7 if rng.once_in(400) => Some(u64::from(u32::MAX)),
             _ => None,
         };
-        SenderCall::Ack(Ack {
+        let ack = Ack {
             number: (number % NUMBERS) as u32,
             full: full.map(|full| full as u32),
-            rtt: rtt.map(|(mean, variance)| Rtt {
-                mean: mean as u32,
-                variance: variance as u32,
-            }),
-        })
-    }
-
-    fn nak(&mut self, state: &State) -> SenderCall {
-        let items = match self.rng.below(12) {
-            0 => 0,
-            1 => self.rng.within(5, 20),
-            _ => self.rng.within(1, 4),
+            rtt: rtt.map(|(mean, variance)| Rtt { mean: mean as u32, variance: variance as u32 }),
         };
-        let mut words: Vec<u32> = Vec::new();
-        for _ in 0..items {
-            let after = words.last().map(|word| (u64::from(*word) + 1) % NUMBERS);
-            let first = self.lost_number(state, after);
-            let more = match self.rng.below(8) {
-                0..=3 => None,
-                4 => Some(0),
-                5 if self.large => Some(self.rng.below(6_000)),
-                5 if self.rng.once_in(50) => Some(self.rng.below(3_000)),
-                5 => Some(self.rng.below(40)),
-                _ => Some(self.rng.below(6)),
-            };
-            match more {
-                None => words.push(first as u32),
-                Some(more) => {
-                    words.push((first + NUMBERS) as u32);
-                    words.push(((first + more) % NUMBERS) as u32);
-                }
-            }
-        }
-        let room = self.rng.once_in(20).then(|| 3 * items);
-        SenderCall::Nak { words, room }
-    }
-
-    /// A number near the buffer, near half the numbers away, or one after the
-    /// last in the report.
-    fn lost_number(&mut self, state: &State, after: Option<u64>) -> u64 {
-        let rng = &mut self.rng;
-        let next = u64::from(state.next_unsent);
-        let front = state.packets.first().map_or(next, |p| u64::from(p.number));
-        let sent = (next + NUMBERS - front) % NUMBERS;
-        let number = match rng.below(12) {
-            0..=1 => after.unwrap_or(front),
-            2 => front + NUMBERS - rng.within(1, 4),
-            3 => next + rng.below(4),
-            4 => next + NUMBERS / 2 + rng.below(4) - 2,
-            5 => state.lost.first().map_or(front, |lost| u64::from(*lost)),
-            _ => front + rng.below(sent + 1),
-        };
-        number % NUMBERS
+        SenderCall::Ack { ack }
     }
 
     fn payload(&mut self, state: &State) -> SenderCall {
@@ -270,6 +204,7 @@ impl Generator {
             1..=3 => next + NUMBERS - 1,
             _ => next + NUMBERS - back,
         };
-        SenderCall::Payload((number % NUMBERS) as u32)
+        let number = (number % NUMBERS) as u32;
+        SenderCall::Payload { number }
     }
 }

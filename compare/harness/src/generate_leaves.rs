@@ -1,13 +1,8 @@
 //! Random scripts for the leaves, near the limits of their rules.
 
-use calls::{Area, HeaderFields, Rtt, TimerState, Wake};
+use calls::{Area, Id, LeafCall, Rtt, TimerState, Which, CHECKS};
 
-use crate::{
-    call::{LeafCall, CHECKS},
-    generate_start::mode,
-    leaf_trial::LeafBooks,
-    rng::Rng,
-};
+use crate::{generate_start::mode, leaf_books::LeafBooks, rng::Rng};
 
 const TIMER_LIMIT: u64 = 1 << 58;
 const TIME_LIMIT: u64 = 1 << 48;
@@ -23,22 +18,13 @@ pub struct LeafGenerator {
 impl LeafGenerator {
     pub fn new(area: Area, seed: u64) -> Self {
         let mut rng = Rng::new(seed);
-        let limit = if area == Area::Pacing {
-            TIME_LIMIT
-        } else {
-            TIMER_LIMIT
-        };
+        let limit = if area == Area::Pacing { TIME_LIMIT } else { TIMER_LIMIT };
         let clock = match rng.below(4) {
             0 => rng.below(1_000),
             1 => limit - rng.within(1, 1 << 40),
             _ => rng.below(limit - (1 << 44)),
         };
-        LeafGenerator {
-            left: rng.within(20, 200),
-            rng,
-            area,
-            clock,
-        }
+        LeafGenerator { left: rng.within(20, 200), rng, area, clock }
     }
 
     pub fn next(&mut self, books: &LeafBooks) -> Option<LeafCall> {
@@ -89,49 +75,42 @@ impl LeafGenerator {
     }
 
     fn timer(&mut self, books: &LeafBooks) -> LeafCall {
-        let Some(timer) = books.timer else {
-            return LeafCall::TimerNew {
-                now: self.clock,
-                period: self.period(),
-            };
+        let timer = match books.timer {
+            Some(timer) => timer,
+            None => return LeafCall::TimerNew { now: self.clock, period: self.period() },
         };
         match self.rng.below(10) {
-            0 => LeafCall::TimerSet(self.period()),
-            1 if self.rng.once_in(3) => LeafCall::TimerReset(self.near(timer)),
-            1 if self.rng.once_in(3) => LeafCall::TimerNew {
-                now: self.near(timer),
-                period: self.period(),
-            },
-            2 => LeafCall::TimerNext,
-            _ => LeafCall::TimerCheck(self.near(timer)),
+            0 => LeafCall::TimerSet { period: self.period() },
+            1 if self.rng.once_in(3) => LeafCall::TimerReset { now: self.near(timer) },
+            1 if self.rng.once_in(3) => LeafCall::TimerNew { now: self.near(timer), period: self.period() },
+            2 => LeafCall::TimerNext {},
+            _ => LeafCall::TimerCheck { now: self.near(timer) },
         }
     }
 
     fn timers(&mut self, books: &LeafBooks) -> LeafCall {
-        let Some(timers) = books.timers else {
-            return LeafCall::TimersNew {
-                now: self.clock,
-                statistics: self.period(),
-                idle: self
-                    .rng
-                    .pick(&[5_000_000_000, 1_000_000, 600_000_000, 1_000]),
-            };
+        let timers = match books.timers {
+            Some(timers) => timers,
+            None => {
+                let idles = [5_000_000_000, 1_000_000, 600_000_000, 1_000];
+                return LeafCall::TimersNew { now: self.clock, statistics: self.period(), idle: self.rng.pick(&idles) };
+            }
         };
         let aimed = self.rng.pick(&timers.all());
         let now = self.near(aimed);
         match self.rng.below(16) {
-            0 => LeafCall::TimersSnd(self.period()),
-            1..=2 => LeafCall::TimersRtt(self.rtt()),
-            3 if self.rng.once_in(3) => LeafCall::TimersResetExp(now),
-            4 if self.rng.once_in(2) => LeafCall::TimersPresetExp(self.exp_count()),
-            5..=8 => LeafCall::TimersWake(Wake {
+            0 => LeafCall::TimersSnd { period: self.period() },
+            1..=2 => LeafCall::TimersRtt { rtt: self.rtt() },
+            3 if self.rng.once_in(3) => LeafCall::TimersResetExp { now },
+            4 if self.rng.once_in(2) => LeafCall::TimersPresetExp { count: self.exp_count() },
+            5..=8 => LeafCall::TimersWake {
                 now,
-                has_packets_to_send: self.rng.once_in(2),
-                next_message: self.rng.once_in(2).then(|| self.near(aimed)),
+                to_send: self.rng.once_in(2),
+                message: self.rng.once_in(2).then(|| self.near(aimed)),
                 unacked: self.rng.pick(&[0, 0, 1, 7]),
-            }),
-            9..=12 => LeafCall::TimersCheck(CHECKS[3].1, self.near(timers.exp)),
-            _ => LeafCall::TimersCheck(self.rng.pick(&CHECKS).1, now),
+            },
+            9..=12 => LeafCall::TimersCheck { which: Which::PeerIdle, now: self.near(timers.exp) },
+            _ => LeafCall::TimersCheck { which: self.rng.pick(&CHECKS).1, now },
         }
     }
 
@@ -144,10 +123,7 @@ impl LeafGenerator {
             3 => (rng.below(30_000), rng.below(20_000)),
             _ => (rng.below(400_000), rng.below(200_000)),
         };
-        Rtt {
-            mean: mean as u32,
-            variance: variance as u32,
-        }
+        Rtt { mean: mean as u32, variance: variance as u32 }
     }
 
     fn exp_count(&mut self) -> u32 {
@@ -162,8 +138,12 @@ impl LeafGenerator {
     }
 
     fn pacing(&mut self, books: &LeafBooks) -> LeafCall {
-        let Some(pacing) = books.pacing else {
-            return LeafCall::PacingNew(mode(&mut self.rng));
+        let pacing = match books.pacing {
+            Some(pacing) => pacing,
+            None => {
+                let mode = mode(&mut self.rng);
+                return LeafCall::PacingNew { mode };
+            }
         };
         let rng = &mut self.rng;
         if let Some(next) = pacing.next {
@@ -189,11 +169,7 @@ impl LeafGenerator {
             2 => rng.below(1 << 38),
             _ => rng.below(1_457 * (packets % 100 + 1)),
         };
-        LeafCall::PacingInput {
-            now: self.clock,
-            packets,
-            bytes,
-        }
+        LeafCall::PacingInput { now: self.clock, packets, bytes }
     }
 
     fn split(&mut self) -> LeafCall {
@@ -211,10 +187,7 @@ impl LeafGenerator {
             1..=8 => (size * rng.below(20) + rng.below(3)).saturating_sub(1),
             _ => rng.below(200),
         };
-        LeafCall::Split {
-            size: size as u32,
-            length: length as u32,
-        }
+        LeafCall::Split { size: size as u32, length: length as u32 }
     }
 
     fn header(&mut self) -> LeafCall {
@@ -224,13 +197,13 @@ impl LeafGenerator {
             1 => limit - 1,
             _ => rng.below(limit),
         };
-        LeafCall::Header(HeaderFields {
+        LeafCall::Header {
             number: field(1 << 31) as u32,
             place: field(4) as u8,
-            retransmitted: field(2) == 1,
+            again: field(2) == 1,
             message: field(1 << 26) as u32,
             stamp: field(1 << 32) as u32,
-            id: field(1 << 32) as u32,
-        })
+            id: Id(field(1 << 32) as u32),
+        }
     }
 }

@@ -3,10 +3,11 @@
 
 use calls::{Mode, Settings};
 
-use crate::{
-    generate::{NUMBERS, STAMPS, TIMES},
-    rng::Rng,
-};
+use crate::rng::Rng;
+
+pub const NUMBERS: u64 = 1 << 31;
+pub const STAMPS: u64 = 1 << 32;
+pub const TIMES: u64 = 1 << 48;
 
 pub fn clock(rng: &mut Rng) -> u64 {
     match rng.below(8) {
@@ -100,12 +101,7 @@ fn spoil(rng: &mut Rng, settings: &mut Settings) {
         5 => settings.latency = 65_535_001,
         6 => settings.overhead = 129,
         7 => settings.mode = Mode::Max((1 << 40) + 1),
-        _ => {
-            settings.mode = Mode::Input {
-                rate: 1,
-                overhead: 10_001,
-            }
-        }
+        _ => settings.mode = Mode::Input { rate: 1, overhead: 10_001 },
     }
 }
 
@@ -121,9 +117,6 @@ pub fn mode(rng: &mut Rng) -> Mode {
         0 => Mode::Input { rate, overhead },
         1 => Mode::Max(rate),
         2 => Mode::Unlimited,
-        _ => Mode::Estimated {
-            expected: rate,
-            overhead,
-        },
+        _ => Mode::Estimated { expected: rate, overhead },
     }
 }

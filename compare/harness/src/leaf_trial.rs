@@ -1,85 +1,26 @@
-//! One script on the leaves of two parties, a judge and a subject. Answers and
-//! books must be equal. The judge is the unmodified copy of the Rust, inside the
-//! domain of equality; or the model of document 01, on any calls.
+//! One script on the leaves of the model and the proved library, and of the
+//! unmodified copy of the Rust inside the domain of equality, or without it on any
+//! calls. Answers and books must be equal.
 
-use calls::{PacingState, TimerState, TimersState};
+use calls::{Answer, LeafCall, Leaves, PacingState, TimerState, TimersState, Which};
+use entries::EntryLeaves;
 
 use crate::{
-    answer::Answer,
-    call::{LeafCall, CHECKS},
-    domain,
+    domain::{self, LONGEST_PERIOD},
+    leaf_books::LeafBooks,
     panics::guarded,
-    party::{Bench, Party},
+    party::Party,
     reach::{Reach, Reached},
+    trial::Parties,
 };
 
-const LONGEST_PERIOD: u64 = 1_000_000_000_000;
-const MOST_PERIODS: u64 = (1 << 32) - 1;
-
-/// The Rust's books of the leaves that a script has made.
-#[derive(Clone, Copy, Default)]
-pub struct LeafBooks {
-    pub timer: Option<TimerState>,
-    pub timers: Option<TimersState>,
-    pub pacing: Option<PacingState>,
-}
-
-impl LeafBooks {
-    fn read(call: &LeafCall, bench: &mut Bench) -> Option<Answer> {
-        use LeafCall::*;
-        let state = match call {
-            TimerNew { .. } | TimerSet(_) | TimerReset(_) | TimerCheck(_) => TimerState,
-            TimersNew { .. }
-            | TimersCheck(..)
-            | TimersWake(_)
-            | TimersSnd(_)
-            | TimersRtt(_)
-            | TimersResetExp(_)
-            | TimersPresetExp(_) => TimersState,
-            PacingNew(_) | PacingInput { .. } => PacingState,
-            _ => return None,
-        };
-        Some(bench.call(&state))
-    }
-
-    fn keep(&mut self, answer: &Answer) {
-        match answer {
-            Answer::Timer(state) => self.timer = Some(*state),
-            Answer::Timers(state) => self.timers = Some(*state),
-            Answer::Pacing(state) => self.pacing = Some(*state),
-            _ => {}
-        }
-    }
-
-    /// No number is held at a cap, but for the period, which is seen afterwards.
-    fn admits(&self, call: &LeafCall) -> bool {
-        let few = |timer: &TimerState, now: u64| {
-            timer.period == 0 || now.saturating_sub(timer.origin) / timer.period <= MOST_PERIODS
-        };
-        match (call, self.timer, self.timers) {
-            (LeafCall::TimerCheck(now), Some(timer), _) => few(&timer, *now),
-            (LeafCall::TimersCheck(_, now), _, Some(timers)) => {
-                timers.all().iter().all(|timer| few(timer, *now)) && timers.exp_count < u32::MAX
-            }
-            (LeafCall::TimersRtt(rtt), _, Some(timers)) => {
-                let once = 4 * u64::from(rtt.mean) + u64::from(rtt.variance) + 10_000;
-                u64::from(timers.exp_count) * once.max(300_000) <= LONGEST_PERIOD
-            }
-            _ => true,
-        }
-    }
-}
+/// Where a script's next call comes from: the books as they are.
+pub type LeafSource<'a> = &'a mut dyn FnMut(&LeafBooks) -> Option<LeafCall>;
 
 /// A leaf script that ended in a difference or a panic.
 pub struct LeafFailure {
     pub calls: Vec<LeafCall>,
     pub text: String,
-}
-
-impl LeafFailure {
-    pub fn script(&self) -> String {
-        written(&self.calls)
-    }
 }
 
 /// A leaf script in its written form.
@@ -89,78 +30,75 @@ pub fn written(calls: &[LeafCall]) -> String {
 }
 
 struct LeafTrial<'a> {
-    name: &'static str,
-    /// The judge refuses by itself, so it takes every call.
-    refuses: bool,
-    judge: Bench<'a>,
-    subject: Bench<'a>,
+    rust: Option<Box<dyn Leaves>>,
+    model: EntryLeaves,
+    proved: Option<EntryLeaves>,
     books: LeafBooks,
     reached: &'a mut Reached,
 }
 
-impl LeafTrial<'_> {
-    fn equal(&self, what: &str, judge: &Answer, subject: &Answer) -> Result<(), String> {
-        if judge == subject {
-            return Ok(());
-        }
-        let name = self.name;
-        Err(format!(
-            "{what}\n--- {name}\n{judge}\n--- against\n{subject}"
-        ))
+fn equal(what: &str, a: &Answer, b: &Answer) -> Result<(), String> {
+    if a == b {
+        return Ok(());
     }
+    Err(format!("{what}\n--- one\n{a}\n--- against\n{b}"))
+}
 
+impl LeafTrial<'_> {
     /// One call; false if it lies outside the domain and wasn't made.
     fn step(&mut self, call: &LeafCall) -> Result<bool, String> {
-        let refusal = domain::leaf_refusal(call, self.books.pacing);
-        let inside = self.books.admits(call);
-        if !inside && refusal.is_ok() && !self.refuses {
+        let inside = domain::admits_leaf(call, &self.books);
+        let skipped = !inside && self.rust.is_some();
+        if skipped && self.model.clone().call(call).refused().is_none() {
             return Ok(false);
         }
-        let judge = match refusal {
-            Err(refusal) if !self.refuses => Answer::Refused(refusal),
-            _ => self.judge.call(call),
-        };
-        let judge = self.period_held(judge);
-        let subject = self.subject.call(call);
-        self.equal("answer", &judge, &subject)?;
-        self.note(call, &judge);
+        let answer = self.model.call(call);
+        if let Some(proved) = &mut self.proved {
+            equal("the model, the proved library", &answer, &proved.call(call))?;
+        }
+        if let (Some(rust), None) = (&mut self.rust, answer.refused()) {
+            let rust = period_held(rust.call(call), self.reached);
+            equal("the Rust, the model", &rust, &answer)?;
+        }
+        self.note(call, &answer);
         if !inside {
-            self.note_held(call, &judge);
+            self.note_held(call, &answer);
         }
-        let books = LeafBooks::read(call, &mut self.judge);
-        if let Some(books) = books {
-            let subject = LeafBooks::read(call, &mut self.subject);
-            self.equal("books", &books, &subject.unwrap_or(Answer::Nothing))?;
-            self.books.keep(&books);
-        }
+        self.compare_books(call)?;
         Ok(true)
     }
 
-    /// The Rust doesn't hold the period; document 01 does.
-    fn period_held(&mut self, answer: Answer) -> Answer {
-        match answer {
-            Answer::Period(Some(period)) if period > LONGEST_PERIOD => {
-                self.reached.note(Reach::PacingHeld);
-                Answer::Period(Some(LONGEST_PERIOD))
+    fn compare_books(&mut self, call: &LeafCall) -> Result<(), String> {
+        let books = match LeafBooks::read(call, &mut self.model) {
+            Some(books) => books,
+            None => return Ok(()),
+        };
+        let proved = self.proved.as_mut().map(|proved| proved as &mut dyn Leaves);
+        let rust = self.rust.as_mut().map(|rust| &mut **rust as &mut dyn Leaves);
+        for (name, other) in [("the proved library", proved), ("the Rust", rust)] {
+            let read = other.and_then(|other| LeafBooks::read(call, other));
+            if let Some(other) = read {
+                equal(&format!("books of the model, of {name}"), &books, &other)?;
             }
-            answer => answer,
         }
+        self.books.keep(&books);
+        Ok(())
     }
 
     fn note(&mut self, call: &LeafCall, answer: &Answer) {
         match (call, answer) {
             (_, Answer::Refused(refusal)) => {
-                if let Some(reach) = Reach::refused(refusal.number()) {
+                if let Some(reach) = Reach::refused(refusal.number) {
                     self.reached.note(reach);
                 }
             }
-            (LeafCall::TimerCheck(now), Answer::Fired(fired)) => {
+            (LeafCall::TimerCheck { now }, Answer::Fired(fired)) => {
                 if let Some(timer) = self.books.timer {
                     self.note_timer(*now, *fired, timer);
                 }
             }
-            (LeafCall::TimersCheck(which, now), Answer::Fired(fired)) => {
-                let idle = *which == CHECKS[3].1;
+            (LeafCall::TimersCheck { which, now }, Answer::Fired(fired)) => {
+                let idle = *which == Which::PeerIdle;
                 if let (true, Some(timers)) = (idle, self.books.timers) {
                     self.note_idle(*now, fired.is_some(), timers);
                 }
@@ -183,14 +121,14 @@ impl LeafTrial<'_> {
     /// Of a call outside the domain.
     fn note_held(&mut self, call: &LeafCall, answer: &Answer) {
         match (call, answer) {
-            (LeafCall::TimerCheck(_), Answer::Fired(_)) => self.reached.note(Reach::TimerHeld),
-            (LeafCall::TimersRtt(_), Answer::Done) => self.reached.note(Reach::ExpHeld),
+            (LeafCall::TimerCheck { .. }, Answer::Fired(_)) => self.reached.note(Reach::TimerHeld),
+            (LeafCall::TimersRtt { .. }, Answer::Done) => self.reached.note(Reach::ExpHeld),
             _ => {}
         }
     }
 
     fn note_timer(&mut self, now: u64, fired: Option<u32>, timer: TimerState) {
-        let several = timer.period > 0 && fired.is_some_and(|periods| periods > 1);
+        let several = timer.period > 0 && fired.map_or(false, |periods| periods > 1);
         self.reached.note_if(several, Reach::TimerSeveral);
         self.reached.note_if(timer.period == 0, Reach::TimerZero);
         let short = (1..1_000).contains(&timer.period) && fired.is_some();
@@ -222,33 +160,46 @@ impl LeafTrial<'_> {
     }
 }
 
-/// Plays one script; gives the calls that were made.
-pub fn play(
-    judge: &Party,
-    subject: &Party,
-    source: &mut dyn FnMut(&LeafBooks) -> Option<LeafCall>,
-    reached: &mut Reached,
-) -> Result<Vec<LeafCall>, LeafFailure> {
-    let mut trial = LeafTrial {
-        name: judge.name,
-        refuses: judge.refuses,
-        judge: judge.bench(),
-        subject: subject.bench(),
-        books: LeafBooks::default(),
-        reached,
-    };
-    let mut calls: Vec<LeafCall> = Vec::new();
-    let outcome = guarded(|| {
-        while let Some(call) = source(&trial.books) {
-            calls.push(call);
-            if !trial.step(&call)? {
-                calls.pop();
-            }
+/// The Rust doesn't hold the period; document 01 does.
+fn period_held(answer: Answer, reached: &mut Reached) -> Answer {
+    match answer {
+        Answer::Period(Some(period)) if period > LONGEST_PERIOD => {
+            reached.note(Reach::PacingHeld);
+            Answer::Period(Some(LONGEST_PERIOD))
         }
-        Ok(())
-    });
-    match outcome {
-        Ok(Ok(())) => Ok(calls),
-        Ok(Err(text)) | Err(text) => Err(LeafFailure { calls, text }),
+        answer => answer,
+    }
+}
+
+impl Parties {
+    /// Plays one script of the leaves; gives the calls that were made.
+    pub fn play_leaves(
+        &self,
+        rust: Option<Party>,
+        source: LeafSource,
+        reached: &mut Reached,
+    ) -> Result<Vec<LeafCall>, LeafFailure> {
+        let mut trial = LeafTrial {
+            rust: rust.map(|rust| rust.leaves()),
+            model: self.model.leaves(),
+            proved: self.proved.map(|proved| proved.leaves()),
+            books: LeafBooks::default(),
+            reached,
+        };
+        let mut calls: Vec<LeafCall> = Vec::new();
+        let outcome = guarded(|| {
+            while let Some(call) = source(&trial.books) {
+                calls.push(call);
+                let call = &calls[calls.len() - 1];
+                if !trial.step(call)? {
+                    calls.pop();
+                }
+            }
+            Ok(())
+        });
+        match outcome {
+            Ok(Ok(())) => Ok(calls),
+            Ok(Err(text)) | Err(text) => Err(LeafFailure { calls, text }),
+        }
     }
 }

@@ -1,30 +1,28 @@
 //! The comparison of a sender with the Rust. compare/run calls it and says how.
 
-mod answer;
 mod answering;
 mod bends;
-mod books;
-mod call;
 mod domain;
 mod exhaustive;
 mod explore;
 mod generate;
 mod generate_faulty;
 mod generate_leaves;
+mod generate_losses;
 mod generate_start;
-mod leaf_modes;
+mod leaf_books;
 mod leaf_trial;
 mod modes;
 mod note;
 mod panics;
-mod parse;
-mod parse_leaves;
 mod party;
+mod random;
 mod reach;
-mod record;
+mod records;
 mod rng;
 mod sample;
-mod session_record;
+mod scores;
+mod script;
 mod session_refusals;
 mod sessions;
 mod shrink;
@@ -33,8 +31,9 @@ mod trial;
 
 use std::{env, fs, path::Path, process::ExitCode, time::Instant};
 
-use call::Call;
-use model::Bend;
+use calls::{Area, Call};
+use entries::Bend;
+use party::{REPAIRED, UNMODIFIED};
 
 /// A faulty script or command line.
 const FAULTY: u8 = 2;
@@ -56,13 +55,11 @@ fn main() -> ExitCode {
         ["bend", name] => judged(false, || modes::bend(name)),
         ["gen", seed, count] => generated("sender", seed, count),
         ["gen", seed, count, area] => generated(area, seed, count),
-        ["sample", seed, count] => made(seed, count, |seed, count| {
-            sample::make(seed, count as usize)
-        }),
+        ["sample", seed, count] => made(seed, count, |seed, count| sample::make(seed, count as usize)),
         ["sessions", seed, count] => made(seed, count, sessions::make),
         ["sample-check"] => judged(false, || Ok(())),
-        ["script", file] => script(file, "repaired"),
-        ["script", file, "--copy", copy] => script(file, copy),
+        ["script", file] => answer(file, "repaired"),
+        ["script", file, "--copy", copy] => answer(file, copy),
         ["answers", file] => match calls_of(file) {
             Ok(calls) => {
                 print!("{}", stored::sections(&calls));
@@ -89,7 +86,7 @@ fn full(seed: &str) -> ExitCode {
 }
 
 fn generated(area: &str, seed: &str, count: &str) -> ExitCode {
-    match (leaf_modes::area(area), seed.parse(), count.parse()) {
+    match (Area::named(area), seed.parse(), count.parse()) {
         (Some(area), Ok(seed), Ok(count)) => status(modes::generate(area, seed, count)),
         (None, _, _) => faulty("AREA is sender, timer, timers, pacing, split or header"),
         _ => faulty("SEED and COUNT are whole numbers"),
@@ -97,10 +94,10 @@ fn generated(area: &str, seed: &str, count: &str) -> ExitCode {
 }
 
 fn made(seed: &str, count: &str, make: impl Fn(u64, u64) -> Result<(), String>) -> ExitCode {
-    let (Ok(seed), Ok(count)) = (seed.parse(), count.parse()) else {
-        return faulty("SEED and COUNT are whole numbers");
-    };
-    status(make(seed, count).map_err(|text| println!("{text}")))
+    match (seed.parse(), count.parse()) {
+        (Ok(seed), Ok(count)) => status(make(seed, count).map_err(|text| println!("{text}"))),
+        _ => faulty("SEED and COUNT are whole numbers"),
+    }
 }
 
 fn faulty(text: &str) -> ExitCode {
@@ -152,10 +149,7 @@ fn compiled_files() -> Result<(), String> {
     if repaired != ["protocol/sender/buffer.rs"] {
         return Err(format!("the repaired copy differs in {repaired:?}"));
     }
-    println!(
-        "files compiled as they stand: {}; repaired: buffer.rs",
-        phel_unmodified::FILES.len()
-    );
+    println!("files compiled as they stand: {}; repaired: buffer.rs", phel_unmodified::FILES.len());
     Ok(())
 }
 
@@ -167,15 +161,15 @@ fn calls_of(file: &str) -> Result<Vec<(usize, Call)>, String> {
         let line = 1 + read.iter().filter(|byte| **byte == b'\n').count();
         format!("{file} line {line}: not UTF-8")
     })?;
-    parse::script(&text).map_err(|(line, fault)| format!("{file} line {line}: {fault}"))
+    script::read(&text).map_err(|(line, fault)| format!("{file} line {line}: {fault}"))
 }
 
-fn script(file: &str, copy: &str) -> ExitCode {
+fn answer(file: &str, copy: &str) -> ExitCode {
     let party = match copy {
-        "unmodified" => party::unmodified(),
-        "repaired" => party::repaired(),
-        "model" => party::model(Bend::None),
-        "rattle" => match party::rattle(rattle::Bend::None) {
+        "unmodified" => UNMODIFIED,
+        "repaired" => REPAIRED,
+        "model" => party::model(),
+        "rattle" => match party::proved(Bend::None) {
             Some(party) => party,
             None => return faulty("the proved library is not at hand (rt)"),
         },
@@ -185,7 +179,7 @@ fn script(file: &str, copy: &str) -> ExitCode {
         Ok(calls) => calls,
         Err(fault) => return faulty(&fault),
     };
-    let (answers, panic) = answering::answers(&party, &calls);
+    let (answers, panic) = answering::answers(party, &calls);
     print!("{answers}");
     match panic {
         None => ExitCode::SUCCESS,

@@ -3,135 +3,104 @@
 
 use std::time::{Duration, Instant};
 
-use calls::{Area, State};
-use model::Bend;
+use calls::{Area, AREAS};
+use entries::Bend;
 
 use crate::{
-    bends,
-    call::SenderCall,
-    exhaustive,
-    generate::Generator,
-    leaf_modes,
-    party::{self, Party},
+    bends, exhaustive, leaf_trial,
+    party::UNMODIFIED,
+    random::{self, Extent},
     reach::Reached,
-    shrink::shrink,
-    trial::{self, play, Failure, Parties, Tally},
+    scores::{written, Scores},
+    trial::Parties,
 };
 
-/// How far the random part goes.
-pub struct Extent {
-    pub sender_calls: u64,
-    pub leaf_calls: u64,
-    /// Beyond these, on until then.
-    pub until: Option<Instant>,
-    /// Of the first script; the others follow.
-    pub seed: u64,
+/// The model, and the proved library where it is at hand.
+pub fn parties() -> Parties {
+    Parties { model: entries::model(0), proved: entries::proved(Bend::None) }
 }
 
-/// A subject beside both copies of the Rust.
-pub fn parties(subject: Party) -> Parties {
-    Parties {
-        unmodified: party::unmodified(),
-        repaired: party::repaired(),
-        subject,
+fn names(parties: &Parties) -> &'static str {
+    match parties.proved {
+        Some(_) => "model and proved library",
+        None => "model",
     }
 }
 
-/// Prints the difference and the smallest script that still shows one.
-fn report(parties: &Parties, failure: Failure) {
-    let replay = |calls: &[SenderCall]| {
-        let mut rest = calls.iter();
-        let source = &mut |_: &State| rest.next().cloned();
-        let (tally, reached) = (&mut Tally::default(), &mut Reached::default());
-        play(parties, failure.settings, source, tally, reached)
-    };
-    let calls = shrink(&failure.calls, &mut |calls| replay(calls).is_err());
-    let small = replay(&calls).err().unwrap_or(failure);
+/// Every script of up to 4 calls, then random ones.
+fn sender(extent: &Extent, parties: &Parties) -> Result<Scores, ()> {
+    let mut scores = Scores::default();
+    exhaustive::all(parties, &mut scores).map_err(|failure| random::report(parties, failure))?;
+    let (calls, scripts) = (scores.calls, scores.scripts);
+    random::sender(extent, parties, &mut scores)?;
+    let (random, random_scripts) = (scores.calls - calls, scores.scripts - scripts);
     println!(
-        "DIFFERENCE {}\n\nsmallest script:\n{}\n",
-        small.text,
-        small.script()
-    );
-    println!("differences 1: stopped there");
-}
-
-fn random_sender(
-    extent: &Extent,
-    parties: &Parties,
-    tally: &mut Tally,
-    reached: &mut Reached,
-) -> Result<(), ()> {
-    let least = tally.calls + extent.sender_calls;
-    let more = |tally: &Tally| {
-        tally.calls < least || extent.until.is_some_and(|until| Instant::now() < until)
-    };
-    let mut seed = extent.seed;
-    while more(tally) {
-        let mut generator = Generator::new(seed);
-        let settings = generator.settings;
-        let source = &mut |state: &State| generator.next(state);
-        let played = play(parties, settings, source, tally, reached);
-        played.map_err(|failure| {
-            println!("seed {seed}");
-            report(parties, failure);
-        })?;
-        seed += 1;
-    }
-    Ok(())
-}
-
-/// A subject's sender: every script of up to 4 calls, then random ones.
-fn sender(name: &str, extent: &Extent, parties: &Parties, reached: &mut Reached) -> Result<(), ()> {
-    let mut tally = Tally::default();
-    exhaustive::all(parties, &mut tally, reached).map_err(|failure| report(parties, failure))?;
-    let (calls, scripts) = (tally.calls, tally.scripts);
-    random_sender(extent, parties, &mut tally, reached)?;
-    let (random, random_scripts) = (tally.calls - calls, tally.scripts - scripts);
-    println!(
-        "calls of the sender compared, {name}: {} in {} scripts, differences 0",
-        tally.calls, tally.scripts
+        "calls of the sender compared, {}: {} in {} scripts, differences 0",
+        names(parties),
+        scores.calls,
+        scores.scripts
     );
     println!("  every script of up to 4 calls: {calls} in {scripts} scripts");
     println!("  random scripts: {random} in {random_scripts} scripts");
-    println!("  by the unmodified copy too: {}", tally.unmodified);
-    println!("  two ways through the Rust agreed: {}", tally.two_ways);
+    println!("  by the unmodified copy too: {}", scores.unmodified);
+    println!("  two ways through the Rust agreed: {}", scores.two_ways);
     println!(
         "  besides, refused by their arguments: {}; outside the domain, not made: {}",
-        tally.refused, tally.outside
+        scores.refused, scores.outside
     );
-    Ok(())
+    Ok(scores)
 }
 
-/// The model, its bent rules, and then the proved library. Fails if anything
-/// differed, was not reached or not noticed.
-fn compare(extent: &Extent) -> Result<(), ()> {
-    let model = parties(party::model(Bend::None));
+/// The leaves with the Rust; then the library's with the model's, in the domain
+/// and out of it. Gives how much was not reached.
+fn leaves(extent: &Extent, parties: &Parties) -> Result<usize, ()> {
     let mut reached = Reached::default();
-    leaf_modes::model(extent, &model, &mut reached)?;
-    let unnoticed = bends::rules();
-    let Some(proved) = party::rattle(rattle::Bend::None) else {
-        println!("the proved library is not at hand (rt): NOT compared");
-        sender("model", extent, &model, &mut reached)?;
-        println!("reached by the model:");
-        return verdict(reached.print(), unnoticed);
-    };
-    let bounded = Extent {
-        until: None,
-        ..*extent
-    };
-    sender("model", &bounded, &model, &mut reached)?;
-    let missed = leaf_modes::rattle(extent, &proved)?;
-    let unnoticed = unnoticed + bends::answers();
-    let proved = parties(proved);
-    let mut reached_by_proved = Reached::default();
-    sender("proved library", extent, &proved, &mut reached_by_proved)?;
-    println!("reached by the model:");
-    let missed = missed + reached.print();
-    println!("reached by the proved sender:");
-    verdict(missed + reached_by_proved.print_scripts(), unnoticed)
+    for (area, name) in &AREAS[1..] {
+        let rust = Some(UNMODIFIED);
+        let compared = random::leaf(*area, extent, parties, rust, &mut reached)?;
+        println!("calls compared with the Rust, {}, {name}: {compared}", names(parties));
+    }
+    if let Some(library) = entries::library() {
+        for (area, name) in &AREAS[1..] {
+            let compared = random::leaf(*area, extent, parties, None, &mut reached)?;
+            println!("calls compared without the Rust, in the domain and out of it, {name}: {compared}");
+        }
+        damaged(library)?;
+    }
+    println!("reached by the leaves:");
+    let missed = reached.print_leaves();
+    // Numbers are held outside the domain: it takes two to compare there.
+    Ok(missed + parties.proved.map_or(0, |_| reached.print_held()))
 }
 
-fn verdict(missed: usize, unnoticed: usize) -> Result<(), ()> {
+fn damaged(library: &entries::Table) -> Result<(), ()> {
+    let (tried, different) = entries::damaged(library);
+    let alike = tried - different.len();
+    println!("damaged books of the leaves that the proved library treats as the model does: {alike} of {tried}");
+    for what in &different {
+        println!("DIFFERENCE {what}: damaged books are not treated as document 01 says");
+    }
+    if different.is_empty() {
+        return Ok(());
+    }
+    Err(())
+}
+
+/// Leaves, bends, sender. Fails if anything differed, was not reached or not
+/// noticed.
+fn compare(extent: &Extent) -> Result<(), ()> {
+    let parties = parties();
+    if parties.proved.is_none() {
+        println!("the proved library is not at hand (rt): NOT compared");
+    }
+    let missed = leaves(extent, &parties)?;
+    let mut unnoticed = bends::rules();
+    if parties.proved.is_some() {
+        unnoticed += bends::answers();
+    }
+    let scores = sender(extent, &parties)?;
+    println!("reached by the sender's scripts:");
+    let missed = missed + scores.reached.print_scripts();
     println!("differences 0, not reached {missed}, bent rules and answers not noticed {unnoticed}");
     if missed + unnoticed > 0 {
         return Err(());
@@ -149,25 +118,19 @@ pub fn short(seconds: u64, seed: u64) -> Result<(), ()> {
 }
 
 pub fn full(seed: u64) -> Result<(), ()> {
-    compare(&Extent {
-        sender_calls: 10_000_000,
-        leaf_calls: 1_000_000,
-        until: None,
-        seed,
-    })
+    compare(&Extent { sender_calls: 10_000_000, leaf_calls: 1_000_000, until: None, seed })
 }
 
-/// The exhaustive part alone, of the proved library or, where it isn't at hand,
-/// of the model.
+/// The exhaustive part alone.
 pub fn scripts() -> Result<(), ()> {
-    let proved = party::rattle(rattle::Bend::None);
-    let parties = parties(proved.unwrap_or_else(|| party::model(Bend::None)));
-    let mut tally = Tally::default();
-    exhaustive::all(&parties, &mut tally, &mut Reached::default())
-        .map_err(|failure| report(&parties, failure))?;
+    let (parties, mut scores) = (parties(), Scores::default());
+    exhaustive::all(&parties, &mut scores).map_err(|failure| random::report(&parties, failure))?;
     println!(
         "every script of up to 4 calls, {}: {} scripts, {} calls, {} by the unmodified copy too",
-        parties.subject.name, tally.scripts, tally.calls, tally.unmodified
+        names(&parties),
+        scores.scripts,
+        scores.calls,
+        scores.unmodified
     );
     println!("differences 0");
     Ok(())
@@ -175,51 +138,44 @@ pub fn scripts() -> Result<(), ()> {
 
 /// Shows how one bend is noticed: fails, as a difference does.
 pub fn bend(name: &str) -> Result<(), ()> {
-    let extent = Extent {
-        sender_calls: 1_000_000,
-        leaf_calls: 1_000_000,
-        until: None,
-        seed: 0,
+    let extent = Extent { sender_calls: 1_000_000, leaf_calls: 1_000_000, until: None, seed: 0 };
+    let bent = match bends::named(name) {
+        Some(bent) => bent,
+        None => {
+            bends::list();
+            return Err(());
+        }
     };
-    let Some((_, area, text, bent)) = bends::named(name) else {
-        bends::list();
-        return Err(());
-    };
-    println!("bent: {text}");
-    let Some(bent) = bent else {
-        println!("the proved library is not at hand (rt)");
-        return Err(());
-    };
-    let parties = parties(bent);
-    let reached = &mut Reached::default();
-    match area {
-        Area::Sender => random_sender(&extent, &parties, &mut Tally::default(), reached),
-        area => {
-            let pair = (&parties.unmodified, &parties.subject);
-            leaf_modes::random(area, &extent, pair, reached).map(|_| ())
+    println!("bent: {}", bent.text);
+    match (bent.parties, bent.area) {
+        (None, _) => println!("the proved library is not at hand (rt)"),
+        (Some(parties), Area::Sender) => return random::sender(&extent, &parties, &mut Scores::default()),
+        (Some(parties), area) => {
+            let reached = &mut Reached::default();
+            return random::leaf(area, &extent, &parties, Some(UNMODIFIED), reached).map(|_| ());
         }
     }
+    Err(())
 }
 
 /// Prints generated scripts of the sender or of a leaf.
 pub fn generate(area: Area, seed: u64, count: u64) -> Result<(), ()> {
-    let parties = parties(party::model(Bend::None));
+    let parties = parties();
     for seed in seed..seed + count {
         let script = match area {
-            Area::Sender => sender_script(&parties, seed)?,
-            area => leaf_modes::script(&parties, area, seed)?,
+            Area::Sender => {
+                let played = random::script(&parties, seed, &mut Scores::default());
+                let (settings, calls) = played.map_err(|failure| random::report(&parties, failure))?;
+                written(settings, &calls)
+            }
+            area => {
+                let reached = &mut Reached::default();
+                let played = random::leaf_script(&parties, Some(UNMODIFIED), (area, seed), reached);
+                let report = |failure| random::report_leaf(&parties, Some(UNMODIFIED), failure);
+                leaf_trial::written(&played.map_err(report)?)
+            }
         };
         println!("# seed {seed}\n{script}");
     }
     Ok(())
-}
-
-fn sender_script(parties: &Parties, seed: u64) -> Result<String, ()> {
-    let mut generator = Generator::new(seed);
-    let settings = generator.settings;
-    let source = &mut |state: &State| generator.next(state);
-    let (tally, reached) = (&mut Tally::default(), &mut Reached::default());
-    let played = play(parties, settings, source, tally, reached);
-    let calls = played.map_err(|failure| report(parties, failure))?;
-    Ok(trial::written(settings, &calls))
 }

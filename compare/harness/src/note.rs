@@ -1,12 +1,12 @@
 //! Notes what a call reached, from the books before and after it.
 
-use calls::{Acked, Loss, LossRun, PacketState, Pushed, Ran, Record, Refusal, Settings, State};
+use calls::{
+    word, Acked, Answer, Loss, LossRun, PacketState, Pushed, Ran, Record, Refusal, SenderCall, Settings, State, EMPTY,
+    INVALID_ACK, STALE_FULL_ACK,
+};
 
 use crate::{
-    answer::Answer,
-    books::distance,
-    call::SenderCall,
-    domain::{late_window, Runs},
+    domain::{distance, late_window, Runs},
     reach::{Reach, Reached},
 };
 
@@ -15,10 +15,6 @@ pub struct Seen<'a> {
     pub before: &'a State,
     pub after: &'a State,
     pub runs: Runs,
-}
-
-fn word(record: &Record, at: usize) -> u32 {
-    u32::from_le_bytes([record[at], record[at + 1], record[at + 2], record[at + 3]])
 }
 
 /// Range marks among the words of a report.
@@ -33,33 +29,25 @@ impl Seen<'_> {
                 reached.note_if(payload.length() == 0, Reach::EmptyMessage);
                 self.message(pushed, reached);
             }
-            (SenderCall::Ack(ack), Answer::Acked(acked)) => self.acked(ack, acked, reached),
-            (SenderCall::Ack(ack), Answer::Refused(refusal)) => {
+            (SenderCall::Ack { ack }, Answer::Acked(acked)) => self.acked(ack, acked, reached),
+            (SenderCall::Ack { ack }, Answer::Refused(refusal)) => {
                 self.ack_refused(ack, refusal, reached);
             }
-            (SenderCall::Nak { words, .. }, Answer::Runs(runs)) => {
-                self.losses(words, runs, reached);
+            (SenderCall::Nak { report }, Answer::Runs(runs)) => {
+                self.losses(&report.words, runs, reached);
             }
-            (
-                SenderCall::Run {
-                    now,
-                    budget,
-                    draining,
-                    ..
-                },
-                Answer::Ran(ran),
-            ) => {
-                reached.note_if(*draining, Reach::Drain);
-                self.times(*now, reached);
-                self.records(*budget, ran, reached);
+            (SenderCall::Run { run }, Answer::Ran(ran)) => {
+                reached.note_if(run.draining, Reach::Drain);
+                self.times(run.now, reached);
+                self.records(run.budget, ran, reached);
             }
-            (SenderCall::Reports, _) => {
+            (SenderCall::Reports {}, _) => {
                 let ends = (self.after.packets.first(), self.after.packets.last());
                 let negative = matches!(ends, (Some(f), Some(b)) if b.time < f.time);
                 reached.note_if(negative, Reach::ReportNegative);
             }
-            (SenderCall::Payload(_), Answer::Refused(_)) => reached.note(Reach::Refused14),
-            (SenderCall::Payload(number), _) => {
+            (SenderCall::Payload { .. }, Answer::Refused(_)) => reached.note(Reach::Refused14),
+            (SenderCall::Payload { number }, _) => {
                 let buffered = self.after.packets.iter().any(|p| p.number == *number);
                 reached.note_if(!buffered, Reach::FlushHeld);
             }
@@ -96,24 +84,19 @@ impl Seen<'_> {
         let front = self.before.packets.first().map_or(0, |p| p.number);
         reached.note_if(ack.number < front, Reach::AckAcrossWrap);
         let above = |full: u32| u64::from(full) > self.before.expected_full;
-        reached.note_if(ack.full.is_some_and(above), Reach::AckFullAbove);
+        reached.note_if(ack.full.map_or(false, above), Reach::AckFullAbove);
     }
 
     fn ack_refused(&self, ack: &calls::Ack, refusal: &Refusal, reached: &mut Reached) {
-        match refusal {
-            Refusal::Empty => reached.note(Reach::AckEmpty),
-            Refusal::StaleFullAck { .. } => {
+        let below = || distance(refusal.values[1] as u32, ack.number) >= 1 << 30;
+        match refusal.number {
+            EMPTY => reached.note(Reach::AckEmpty),
+            STALE_FULL_ACK => {
                 reached.note(Reach::AckStale);
                 reached.note_if(ack.rtt.is_some(), Reach::AckStaleRtt);
             }
-            Refusal::InvalidAck { first, .. } => {
-                let below = distance(*first, ack.number) >= 1 << 30;
-                reached.note(if below {
-                    Reach::AckBelow
-                } else {
-                    Reach::AckAbove
-                });
-            }
+            INVALID_ACK if below() => reached.note(Reach::AckBelow),
+            INVALID_ACK => reached.note(Reach::AckAbove),
             _ => {}
         }
     }
@@ -150,7 +133,7 @@ impl Seen<'_> {
         reached.note_if(late_at == Some(now), Reach::LateAtLimit);
         let due = |packet: &PacketState| packet.due == Some(now as u32);
         reached.note_if(packets.iter().any(due), Reach::DueAtLimit);
-        let back = self.runs.is_some_and(|(_, last)| now < last);
+        let back = self.runs.map_or(false, |(_, last)| now < last);
         reached.note_if(back, Reach::TimeBack);
     }
 
@@ -166,7 +149,7 @@ impl Seen<'_> {
                 }
                 2 => {
                     reached.note(Reach::ByTime);
-                    let tie = last.is_some_and(|last| self.tied(last, record));
+                    let tie = last.map_or(false, |last| self.tied(last, record));
                     reached.note_if(tie, Reach::ByTimeTie);
                     sends += 1;
                 }
@@ -182,18 +165,12 @@ impl Seen<'_> {
         }
     }
 
-    fn send(
-        &self,
-        record: &Record,
-        last: Option<&Record>,
-        sends: u32,
-        budget: u32,
-        reached: &mut Reached,
-    ) {
+    fn send(&self, record: &Record, last: Option<&Record>, sends: u32, budget: u32, reached: &mut Reached) {
         let number = word(record, 4);
         reached.note_if(record[1] & 1 == 1, Reach::Flush);
-        let pair = last.is_some_and(|last| last[0] == 1 && distance(word(last, 4), number) == 1);
-        if record[1] & 1 == 1 || !number.is_multiple_of(16) || !pair {
+        let after = |last: &Record| last[0] == 1 && distance(word(last, 4), number) == 1;
+        let pair = last.map_or(false, after);
+        if record[1] & 1 == 1 || number % 16 != 0 || !pair {
             return;
         }
         reached.note_if(sends < budget, Reach::SixteenthWithin);

@@ -99,13 +99,7 @@ reaches! {
 }
 
 /// The refusals that the leaves give.
-const OF_LEAVES: [Reach; 5] = [
-    Reach::Refused1,
-    Reach::Refused4,
-    Reach::Refused5,
-    Reach::Refused6,
-    Reach::Refused8,
-];
+const OF_LEAVES: [Reach; 5] = [Reach::Refused1, Reach::Refused4, Reach::Refused5, Reach::Refused6, Reach::Refused8];
 
 /// What takes long messages: none of it is in the stored sessions.
 const OF_LONG: [Reach; 3] = [Reach::Refused5, Reach::Refused6, Reach::BufferLargest];
@@ -117,7 +111,7 @@ fn of_small() -> impl Iterator<Item = usize> {
 
 impl Reach {
     /// The reach of a refusal by number.
-    pub fn refused(number: u8) -> Option<Reach> {
+    pub fn refused(number: u32) -> Option<Reach> {
         use Reach::*;
         match number {
             1 => Some(Refused1),
@@ -154,22 +148,18 @@ impl Reached {
         }
     }
 
-    /// Every count, and how many are zero. Held numbers lie outside the domain.
-    pub fn print(&self) -> usize {
-        self.print_some(&mut (0..Reach::TimerHeld as usize))
+    /// Every count of the sender's scripts, and how many are zero: none brings as
+    /// much as CountFull takes.
+    pub fn print_scripts(&self) -> usize {
+        let all = 0..Reach::TimerSeveral as usize;
+        self.print_some(&mut all.filter(|index| *index != Reach::Refused6 as usize))
     }
 
-    /// The same of the leaves alone.
+    /// The same of the leaves.
     pub fn print_leaves(&self) -> usize {
         let refusals = OF_LEAVES.iter().map(|reach| *reach as usize);
         let inside = Reach::TimerSeveral as usize..Reach::PacingHeld as usize;
         self.print_some(&mut refusals.chain(inside))
-    }
-
-    /// The same of the sender's scripts: none brings as much as CountFull takes.
-    pub fn print_scripts(&self) -> usize {
-        let all = 0..Reach::TimerSeveral as usize;
-        self.print_some(&mut all.filter(|index| *index != Reach::Refused6 as usize))
     }
 
     /// The same of the stored sessions: all but what takes a message of more than

@@ -1,7 +1,13 @@
 //! The end of the stored sessions: refusals that no script of the comparison
 //! reaches within the program's areas, with the answers that document 01 gives.
 
-use crate::record::{numbers, Numbers};
+use calls::Numbers;
+
+fn numbers(given: &[u64]) -> Numbers {
+    let mut all = Numbers::default();
+    all[..given.len()].copy_from_slice(given);
+    all
+}
 
 /// A sender for `buffer` packets of four bytes.
 fn new(buffer: u64) -> Numbers {

@@ -3,21 +3,18 @@
 //! crates/sessions must print. They begin with document 01's ten bytes and end
 //! with refusals that the Rust doesn't give.
 
-use calls::{Area, Settings, State};
-use model::{Bend, BENDS};
+use calls::{Area, Call, SenderCall, Settings, State};
 
 use crate::{
     answering,
-    call::{Call, SenderCall},
-    domain,
     generate::Generator,
     modes,
     panics::guarded,
-    parse, party,
-    reach::Reached,
-    sample::{put, same, stored},
-    session_record as record, session_refusals as refusals,
-    trial::{play, Parties, Tally},
+    party::{bent_model, model, REPAIRED},
+    records::{put, same, stored, written},
+    scores::Scores,
+    script, session_refusals as refusals,
+    trial::Source,
 };
 
 const TEN_BYTES: &str = "\
@@ -40,25 +37,20 @@ const SCRIPT: usize = 24;
 /// Whether the areas have room, or the settings are refused before they count.
 fn fit(settings: &Settings) -> bool {
     let small = settings.buffer <= CAPACITY_MOST && settings.size <= SIZE_MOST;
-    small || domain::settings(settings).is_err()
+    small || model().sender(settings).is_err()
 }
 
-/// Plays a script on the three senders; gives its calls that were made.
-fn played(
-    parties: &Parties,
-    settings: Settings,
-    source: &mut dyn FnMut(&State) -> Option<SenderCall>,
-    reached: &mut Reached,
-) -> Result<Vec<Call>, String> {
-    let calls = play(parties, settings, source, &mut Tally::default(), reached);
+/// Plays a script on all senders; gives its calls that were made.
+fn played(settings: Settings, source: Source, scores: &mut Scores) -> Result<Vec<Call>, String> {
+    let calls = modes::parties().play(settings, source, scores);
     let calls = calls.map_err(|failure| failure.text)?;
-    let new = [Call::New(settings)].into_iter();
-    Ok(new.chain(calls.into_iter().map(Call::Sender)).collect())
+    let new = [SenderCall::New { settings }].into_iter();
+    Ok(new.chain(calls).map(Call::Sender).collect())
 }
 
 /// The calls of a generated script that have a record; none where the areas
 /// have no room.
-fn generated(parties: &Parties, seed: u64, reached: &mut Reached) -> Result<Vec<Call>, String> {
+fn generated(seed: u64, scores: &mut Scores) -> Result<Vec<Call>, String> {
     let mut generator = Generator::new(seed);
     let settings = generator.settings;
     if !fit(&settings) {
@@ -69,67 +61,66 @@ fn generated(parties: &Parties, seed: u64, reached: &mut Reached) -> Result<Vec<
         left = left.checked_sub(1)?;
         loop {
             let call = generator.next(state)?;
-            if record::write(&Call::Sender(call.clone())).is_some() {
+            if call.numbers().is_some() {
                 return Some(call);
             }
         }
     };
-    played(parties, settings, source, reached)
+    played(settings, source, scores)
 }
 
-fn ten_bytes(parties: &Parties, reached: &mut Reached) -> Result<Vec<Call>, String> {
-    let calls =
-        parse::script(TEN_BYTES).map_err(|(line, fault)| format!("line {line}: {fault}"))?;
-    let mut calls = calls.into_iter().map(|(_, call)| call);
-    let Some(Call::New(settings)) = calls.next() else {
-        return Err("the ten bytes begin with no new".to_string());
+fn ten_bytes(scores: &mut Scores) -> Result<Vec<Call>, String> {
+    let calls = script::read(TEN_BYTES).map_err(|(line, fault)| format!("line {line}: {fault}"))?;
+    let calls = calls.into_iter().filter_map(|(_, call)| match call {
+        Call::Sender(call) => Some(call),
+        Call::Leaf(_) => None,
+    });
+    let mut calls = calls.peekable();
+    let settings = match calls.next() {
+        Some(SenderCall::New { settings }) => settings,
+        _ => return Err("the ten bytes begin with no new".to_string()),
     };
-    let source = &mut |_: &State| match calls.next() {
-        Some(Call::Sender(call)) => Some(call),
-        _ => None,
-    };
-    played(parties, settings, source, reached)
+    played(settings, &mut |_: &State| calls.next(), scores)
 }
 
 /// Of each of the sender's bent rules, whether the answers show it.
 fn noticed(calls: &[Call]) -> Vec<bool> {
-    let now = answering::plain(&party::repaired(), calls);
-    let shows = |bend: Bend| {
-        let bent = guarded(|| answering::plain(&party::model(bend), calls));
-        bent.is_ok_and(|bent| bent != now)
+    let now = answering::plain(REPAIRED, calls);
+    let shows = |rule: entries::Rule| {
+        let bent = guarded(|| answering::plain(bent_model(rule.number), calls));
+        bent.map_or(false, |bent| bent != now)
     };
-    let of_sender = |area: &Area| matches!(area, Area::Sender);
-    let rules = BENDS.iter().filter(|(_, area, _)| of_sender(area));
-    rules.map(|(bend, _, _)| shows(*bend)).collect()
+    let rules = entries::rules().into_iter();
+    let of_sender = rules.filter(|rule| rule.area == Area::Sender);
+    of_sender.map(shows).collect()
+}
+
+fn numbers(call: &Call) -> Option<calls::Numbers> {
+    match call {
+        Call::Sender(call) => call.numbers(),
+        Call::Leaf(_) => None,
+    }
 }
 
 fn store(calls: &[Call]) -> Result<(), String> {
-    let records: Option<Vec<Vec<u8>>> = calls.iter().map(record::write).collect();
-    let records = records.ok_or("a call of the sessions has no record")?;
-    let lines = answering::plain(&party::repaired(), calls) + &refusals::lines();
-    put(
-        FOLDER,
-        &[records.concat(), refusals::records()].concat(),
-        &lines,
-    )
+    let records = written(calls.iter().map(numbers))?;
+    let lines = answering::plain(REPAIRED, calls) + &refusals::lines();
+    put(FOLDER, &[records, refusals::records()].concat(), &lines)
 }
 
 /// Makes the sessions anew: the ten bytes, then of so many generated scripts
 /// those that reach or notice what none before them did.
 pub fn make(seed: u64, count: u64) -> Result<(), String> {
-    let parties = modes::parties(party::model(Bend::None));
-    let mut reached = Reached::default();
-    let mut calls = ten_bytes(&parties, &mut reached)?;
+    let mut scores = Scores::default();
+    let mut calls = ten_bytes(&mut scores)?;
+    let mut reached = scores.reached;
     let mut shown = noticed(&calls);
     let mut scripts = 1;
     for seed in seed..seed + count {
-        let mut more = reached.clone();
-        let script = generated(&parties, seed, &mut more)?;
-        let shows: Vec<bool> = noticed(&script)
-            .into_iter()
-            .zip(&shown)
-            .map(|(a, b)| a || *b)
-            .collect();
+        let mut scores = Scores { reached: reached.clone(), ..Scores::default() };
+        let script = generated(seed, &mut scores)?;
+        let more = scores.reached;
+        let shows: Vec<bool> = noticed(&script).into_iter().zip(&shown).map(|(a, b)| a || *b).collect();
         if more.kinds() > reached.kinds() || shows != shown {
             calls.extend(script);
             (reached, shown) = (more, shows);
@@ -139,26 +130,20 @@ pub fn make(seed: u64, count: u64) -> Result<(), String> {
     println!("reached by the sessions:");
     let missed = reached.print_sender();
     let unnoticed = shown.iter().filter(|shown| !**shown).count();
-    println!(
-        "not reached {missed}, bent rules of {} not noticed {unnoticed}",
-        shown.len()
-    );
+    println!("not reached {missed}, bent rules of {} not noticed {unnoticed}", shown.len());
     if missed + unnoticed > 0 {
         return Err("nothing written".to_string());
     }
     store(&calls)?;
-    println!(
-        "sessions: {} calls in {scripts} scripts, answered by the repaired copy",
-        calls.len()
-    );
+    println!("sessions: {} calls in {scripts} scripts, answered by the repaired copy", calls.len());
     check()
 }
 
 /// Holds the stored answers against what the Rust answers now.
 pub fn check() -> Result<(), String> {
     let end = refusals::records();
-    let calls = stored(FOLDER, &end, record::read)?;
-    let now = answering::plain(&party::repaired(), &calls) + &refusals::lines();
+    let calls = stored(FOLDER, &end, |numbers| SenderCall::of(numbers).map(Call::Sender))?;
+    let now = answering::plain(REPAIRED, &calls) + &refusals::lines();
     same(FOLDER, "sessions", &now)?;
     println!("stored sessions answered as stored: {} calls", calls.len());
     Ok(())

@@ -3,13 +3,13 @@
 //! file has a section for each group of parties that answer alike, headed
 //! `## names`. The proved library must answer as the model does.
 
-use model::Bend;
+use calls::Call;
+use entries::Bend;
 
 use crate::{
     answering,
-    call::Call,
-    parse,
-    party::{self, Party},
+    party::{model, proved, Party, REPAIRED, UNMODIFIED},
+    script,
 };
 
 macro_rules! stored {
@@ -47,13 +47,8 @@ const SLOW: &[Stored] = stored! { "long-range" };
 
 /// The answers of all, in sections.
 pub fn sections(calls: &[(usize, Call)]) -> String {
-    let parties = [
-        party::unmodified(),
-        party::repaired(),
-        party::model(Bend::None),
-    ];
     let mut groups: Vec<(String, String)> = Vec::new();
-    for party in &parties {
+    for party in [UNMODIFIED, REPAIRED, model()] {
         let (mut text, panic) = answering::answers(party, calls);
         if panic.is_some() {
             text += "panic\n";
@@ -69,17 +64,15 @@ pub fn sections(calls: &[(usize, Call)]) -> String {
 
 /// Whether the proved library, where it is at hand, answers as the model does.
 fn as_proved(calls: &[(usize, Call)]) -> bool {
-    let of = |party: &Party| answering::answers(party, calls);
-    let proved = party::rattle(rattle::Bend::None);
-    proved.is_none_or(|proved| of(&proved) == of(&party::model(Bend::None)))
+    let of = |party: Party| answering::answers(party, calls);
+    proved(Bend::None).map_or(true, |proved| of(proved) == of(model()))
 }
 
 /// Holds the stored answers against those given now.
 pub fn check(slow: bool) -> Result<(), String> {
     let slow = if slow { SLOW } else { &[] };
-    for (name, script, answers) in QUICK.iter().chain(slow) {
-        let calls = parse::script(script)
-            .map_err(|(line, fault)| format!("{name}.script line {line}: {fault}"))?;
+    for (name, text, answers) in QUICK.iter().chain(slow) {
+        let calls = script::read(text).map_err(|(line, fault)| format!("{name}.script line {line}: {fault}"))?;
         let now = sections(&calls);
         if now != *answers {
             return Err(format!("DIFFERENCE from {name}.answers:\n{now}"));
@@ -88,9 +81,6 @@ pub fn check(slow: bool) -> Result<(), String> {
             return Err(format!("DIFFERENCE of the proved library in {name}.script"));
         }
     }
-    println!(
-        "stored scripts answered as stored: {}",
-        QUICK.len() + slow.len()
-    );
+    println!("stored scripts answered as stored: {}", QUICK.len() + slow.len());
     Ok(())
 }

@@ -1,282 +1,221 @@
-//! One script on three senders: the subject, the repaired copy throughout, and
-//! the unmodified copy up to, not including, the call that makes the first
-//! removal by a full buffer or late drop. Answers, what runs send, and the
-//! books must be equal.
+//! One script on all senders: the model and the proved library throughout, the
+//! repaired copy too, and the unmodified copy up to, not including, the call that
+//! makes the first removal by a full buffer or late drop. Answers, what runs send,
+//! and the books must be equal.
 
-use std::{fmt::Display, mem};
+use std::mem;
 
-use calls::{Sender, Settings, State};
+use calls::{call_sender, Answer, Refusal, Sender, SenderCall, Settings, State};
+use entries::{Entries, EntrySender};
 
 use crate::{
-    answer::Answer,
-    books,
-    call::{Call, SenderCall},
     domain::{self, Runs},
     note,
     panics::guarded,
-    party::{call_sender, Party},
-    reach::{Reach, Reached},
+    party::{Party, REPAIRED, UNMODIFIED},
+    reach::Reach,
+    scores::{Failure, Scores},
 };
 
+/// Those held against the Rust: the model, which also says what is refused, and
+/// the proved library where it is at hand.
+#[derive(Clone, Copy)]
 pub struct Parties {
-    pub unmodified: Party,
-    pub repaired: Party,
-    pub subject: Party,
+    pub model: Entries,
+    pub proved: Option<Entries>,
 }
 
-/// What was compared.
-#[derive(Default)]
-pub struct Tally {
-    pub scripts: u64,
-    /// Calls answered by subject and repaired copy.
-    pub calls: u64,
-    /// Of these, answered by the unmodified copy too.
-    pub unmodified: u64,
-    /// Calls that document 01 refuses by their arguments.
-    pub refused: u64,
-    /// Calls that were proposed but lie outside the domain, and weren't made.
-    pub outside: u64,
-    /// Calls that two ways through a copy agreed on.
-    pub two_ways: u64,
-}
-
-/// A script that ended in a difference or a panic.
-pub struct Failure {
-    pub settings: Settings,
-    pub calls: Vec<SenderCall>,
-    pub text: String,
-}
-
-impl Failure {
-    pub fn script(&self) -> String {
-        written(self.settings, &self.calls)
-    }
-}
-
-/// A script in its written form.
-pub fn written(settings: Settings, calls: &[SenderCall]) -> String {
-    let mut lines = Call::New(settings).to_string();
-    for call in calls {
-        lines += &format!("\n{call}");
-    }
-    lines
-}
+/// Where a script's next call comes from: the books as they are.
+pub type Source<'a> = &'a mut dyn FnMut(&State) -> Option<SenderCall>;
 
 struct Trial<'a> {
     settings: Settings,
     unmodified: Option<Box<dyn Sender>>,
     repaired: Box<dyn Sender>,
-    subject: Box<dyn Sender>,
+    model: EntrySender,
+    proved: Option<EntrySender>,
     before: State,
     /// Of the repaired copy.
     books: State,
     other: State,
     runs: Runs,
-    tally: &'a mut Tally,
-    reached: &'a mut Reached,
+    scores: &'a mut Scores,
 }
 
-fn equal<T: PartialEq>(
-    what: &str,
-    judge: &T,
-    subject: &T,
-    show: impl Fn(&T) -> String,
-) -> Result<(), String> {
-    if judge == subject {
+fn equal(what: &str, a: &Answer, b: &Answer) -> Result<(), String> {
+    if a == b {
         return Ok(());
     }
-    Err(format!(
-        "{what}\n--- the Rust\n{}\n--- against\n{}",
-        show(judge),
-        show(subject)
-    ))
+    Err(format!("{what}\n--- one\n{a}\n--- against\n{b}"))
 }
 
-fn show(answer: &impl Display) -> String {
-    answer.to_string()
-}
-
-fn show_state(state: &State) -> String {
-    Answer::State(Box::new(state.clone())).to_string()
+fn equal_books(whose: &str, a: &State, b: &State) -> Result<(), String> {
+    if a == b {
+        return Ok(());
+    }
+    let [a, b] = [a, b].map(|state| Answer::State(Box::new(state.clone())));
+    equal(&format!("books of {whose}"), &a, &b)
 }
 
 impl Trial<'_> {
     /// One call; false if it lies outside the domain and wasn't made.
     fn step(&mut self, call: &SenderCall) -> Result<bool, String> {
-        if let Err(refusal) = domain::refusal(call, &self.books) {
-            let answer = call_sender(&mut *self.subject, call);
-            equal("refusal", &Answer::Refused(refusal), &answer, show)?;
-            if let Some(reach) = Reach::refused(refusal.number()) {
-                self.reached.note(reach);
-            }
-            self.tally.refused += 1;
-            self.subject.state(&mut self.other);
-            equal(
-                "books after a refusal",
-                &self.books,
-                &self.other,
-                show_state,
-            )?;
-            return Ok(true);
-        }
-        if !domain::admits(call, &self.books, &self.settings, self.runs) {
+        let inside = domain::admits(call, &self.books, &self.settings, self.runs);
+        if !inside && call_sender(&mut self.model.clone(), call).refused().is_none() {
             return Ok(false);
         }
-        let answer = call_sender(&mut *self.repaired, call);
-        let subject = call_sender(&mut *self.subject, call);
-        equal("repaired copy", &answer, &subject, show)?;
+        let answer = call_sender(&mut self.model, call);
+        if let Some(proved) = &mut self.proved {
+            let proved = call_sender(proved, call);
+            equal("the model, the proved library", &answer, &proved)?;
+        }
+        if let Some(refusal) = answer.refused() {
+            return self.refused(refusal).map(|()| true);
+        }
+        let rust = call_sender(&mut *self.repaired, call);
+        equal("the repaired copy, the model", &rust, &answer)?;
         if matches!(answer, Answer::Ran(_)) {
-            let sent = Answer::Sent(self.repaired.sent());
-            equal("sent", &sent, &Answer::Sent(self.subject.sent()), show)?;
+            self.compare_sent()?;
         }
         self.step_unmodified(call, &answer)?;
-        self.tally.calls += 1;
+        self.scores.calls += 1;
+        mem::swap(&mut self.before, &mut self.books);
+        self.repaired.state(&mut self.books);
         self.compare_books()?;
-        let seen = note::Seen {
-            settings: &self.settings,
-            before: &self.before,
-            after: &self.books,
-            runs: self.runs,
-        };
-        seen.note(call, &answer, self.reached);
-        self.keep_runs(call);
+        let seen = note::Seen { settings: &self.settings, before: &self.before, after: &self.books, runs: self.runs };
+        seen.note(call, &answer, &mut self.scores.reached);
+        self.runs = domain::runs_after(self.runs, call, &self.books);
         Ok(true)
     }
 
+    /// The Rust isn't given such a call: the books must be as they were.
+    fn refused(&mut self, refusal: Refusal) -> Result<(), String> {
+        if let Some(reach) = Reach::refused(refusal.number) {
+            self.scores.reached.note(reach);
+        }
+        self.scores.refused += 1;
+        self.compare_books()
+    }
+
+    fn compare_sent(&self) -> Result<(), String> {
+        let sent = Answer::Sent(self.repaired.sent());
+        equal("sent, the model", &sent, &Answer::Sent(self.model.sent()))?;
+        let proved = self.proved.iter();
+        let mut proved = proved.map(|proved| Answer::Sent(proved.sent()));
+        proved.try_for_each(|proved| equal("sent, the proved library", &sent, &proved))
+    }
+
     fn step_unmodified(&mut self, call: &SenderCall, answer: &Answer) -> Result<(), String> {
-        let Some(unmodified) = self.unmodified.as_mut() else {
-            return Ok(());
-        };
         let full = matches!(answer, Answer::Pushed(pushed) if pushed.removed > 0);
         let late = matches!(answer, Answer::Ran(ran) if ran.records.iter().any(|r| r[0] == 4));
-        if full || late {
-            self.reached.note_if(full, Reach::UnmodifiedFull);
-            self.reached.note_if(late, Reach::UnmodifiedLate);
-            self.tally.two_ways += unmodified.agreed();
-            self.unmodified = None;
-            return Ok(());
+        let scores = &mut *self.scores;
+        match self.unmodified.take() {
+            Some(unmodified) if full || late => {
+                scores.reached.note_if(full, Reach::UnmodifiedFull);
+                scores.reached.note_if(late, Reach::UnmodifiedLate);
+                scores.two_ways += unmodified.agreed();
+            }
+            Some(mut unmodified) => {
+                let unpatched = call_sender(&mut *unmodified, call);
+                equal("the unmodified copy, the model", &unpatched, answer)?;
+                scores.unmodified += 1;
+                self.unmodified = Some(unmodified);
+            }
+            None => {}
         }
-        let unpatched = call_sender(&mut **unmodified, call);
-        equal("unmodified copy", &unpatched, answer, show)?;
-        self.tally.unmodified += 1;
         Ok(())
     }
 
+    /// All books are those of the repaired copy.
     fn compare_books(&mut self) -> Result<(), String> {
-        mem::swap(&mut self.before, &mut self.books);
-        self.repaired.state(&mut self.books);
-        self.subject.state(&mut self.other);
-        equal("books", &self.books, &self.other, show_state)?;
+        self.model.state(&mut self.other);
+        equal_books("the model", &self.books, &self.other)?;
+        if let Some(proved) = &self.proved {
+            if let Some(part) = self.model.differs(proved) {
+                return Err(format!("{part} of the proved library isn't the model's"));
+            }
+        }
         if let Some(unmodified) = &self.unmodified {
             unmodified.state(&mut self.other);
-            equal(
-                "books of the unmodified copy",
-                &self.other,
-                &self.books,
-                show_state,
-            )?;
+            equal_books("the unmodified copy", &self.books, &self.other)?;
         }
-        books::check(&self.settings, &self.books)
-            .map_err(|rule| format!("book rule broken: {rule}\n{}", show_state(&self.books)))
+        Ok(())
     }
 
-    fn keep_runs(&mut self, call: &SenderCall) {
-        if let SenderCall::Run { now, .. } = call {
-            self.runs = Some(domain::runs_with(self.runs, *now));
-        }
-        if self.books.packets.is_empty() {
-            self.runs = None;
-        }
-    }
-
+    /// The last books keep the book rules too: the model would refuse them.
     fn finish(self) {
-        self.tally.two_ways += self.repaired.agreed();
-        if let Some(unmodified) = self.unmodified {
-            self.tally.two_ways += unmodified.agreed();
+        self.model.reports();
+        self.scores.two_ways += self.repaired.agreed();
+        self.scores.two_ways += self.unmodified.map_or(0, |unmodified| unmodified.agreed());
+    }
+}
+
+fn refused_settings<'a>(scores: &mut Scores, a: Refusal, b: Refusal) -> Result<Option<Trial<'a>>, String> {
+    scores.refused += 1;
+    scores.reached.note(Reach::Refused1);
+    equal("settings", &Answer::Refused(a), &Answer::Refused(b)).map(|()| None)
+}
+
+impl Parties {
+    /// Plays one script; `source` gives the next call from the books as they are.
+    /// Gives the calls that were made.
+    pub fn play(&self, settings: Settings, source: Source, scores: &mut Scores) -> Result<Vec<SenderCall>, Failure> {
+        let mut calls = Vec::new();
+        let outcome = guarded(|| self.play_calls(settings, source, scores, &mut calls));
+        match outcome {
+            Ok(Ok(())) => Ok(calls),
+            Ok(Err(text)) | Err(text) => Err(Failure { settings, calls, text }),
         }
     }
-}
 
-/// Plays one script; `source` gives the next call from the books as they are.
-/// Gives the calls that were made.
-pub fn play(
-    parties: &Parties,
-    settings: Settings,
-    source: &mut dyn FnMut(&State) -> Option<SenderCall>,
-    tally: &mut Tally,
-    reached: &mut Reached,
-) -> Result<Vec<SenderCall>, Failure> {
-    let mut calls = Vec::new();
-    let outcome = guarded(|| play_calls(parties, settings, source, tally, reached, &mut calls));
-    let text = match outcome {
-        Ok(Ok(())) => return Ok(calls),
-        Ok(Err(text)) => text,
-        Err(text) => text,
-    };
-    Err(Failure {
-        settings,
-        calls,
-        text,
-    })
-}
-
-/// The three senders, or what settings out of range are refused with.
-fn start<'a>(
-    parties: &Parties,
-    settings: Settings,
-    tally: &'a mut Tally,
-    reached: &'a mut Reached,
-) -> Result<Option<Trial<'a>>, String> {
-    tally.scripts += 1;
-    let subject = parties.subject.sender(&settings);
-    if let Err(refusal) = domain::settings(&settings) {
-        tally.refused += 1;
-        reached.note(Reach::Refused1);
-        let made = subject.map(|_| ());
-        equal("settings", &Err(refusal), &made, |made| format!("{made:?}"))?;
-        return Ok(None);
+    /// The senders; none where the settings are refused, by all alike.
+    fn start<'a>(&self, settings: Settings, scores: &'a mut Scores) -> Result<Option<Trial<'a>>, String> {
+        scores.scripts += 1;
+        let proved = self.proved.map(|proved| proved.sender(&settings)).transpose();
+        let (model, proved) = match (self.model.sender(&settings), proved) {
+            (Ok(model), Ok(proved)) => (model, proved),
+            (Err(refusal), Ok(None)) => return refused_settings(scores, refusal, refusal),
+            (Err(refusal), Err(proved)) => return refused_settings(scores, refusal, proved),
+            _ => return Err("one of two refuses the settings".to_string()),
+        };
+        let rust = |party: Party| party.sender(&settings).map_err(|r| r.to_string());
+        let mut trial = Trial {
+            settings,
+            unmodified: Some(rust(UNMODIFIED)?),
+            repaired: rust(REPAIRED)?,
+            model,
+            proved,
+            before: State::default(),
+            books: State::default(),
+            other: State::default(),
+            runs: None,
+            scores,
+        };
+        trial.repaired.state(&mut trial.books);
+        trial.compare_books()?;
+        Ok(Some(trial))
     }
-    let judges = (
-        parties.repaired.sender(&settings),
-        parties.unmodified.sender(&settings),
-    );
-    let (Ok(subject), (Ok(repaired), Ok(unmodified))) = (subject, judges) else {
-        return Err("settings in range are refused".to_string());
-    };
-    Ok(Some(Trial {
-        settings,
-        unmodified: Some(unmodified),
-        repaired,
-        subject,
-        before: State::default(),
-        books: State::default(),
-        other: State::default(),
-        runs: None,
-        tally,
-        reached,
-    }))
-}
 
-fn play_calls(
-    parties: &Parties,
-    settings: Settings,
-    source: &mut dyn FnMut(&State) -> Option<SenderCall>,
-    tally: &mut Tally,
-    reached: &mut Reached,
-    calls: &mut Vec<SenderCall>,
-) -> Result<(), String> {
-    let Some(mut trial) = start(parties, settings, tally, reached)? else {
-        return Ok(());
-    };
-    trial.compare_books()?;
-    while let Some(call) = source(&trial.books) {
-        calls.push(call);
-        let call = &calls[calls.len() - 1];
-        if !trial.step(call)? {
-            trial.tally.outside += 1;
-            calls.pop();
+    fn play_calls(
+        &self,
+        settings: Settings,
+        source: Source,
+        scores: &mut Scores,
+        calls: &mut Vec<SenderCall>,
+    ) -> Result<(), String> {
+        let mut trial = match self.start(settings, scores)? {
+            Some(trial) => trial,
+            None => return Ok(()),
+        };
+        while let Some(call) = source(&trial.books) {
+            calls.push(call);
+            let call = &calls[calls.len() - 1];
+            if !trial.step(call)? {
+                trial.scores.outside += 1;
+                calls.pop();
+            }
         }
+        trial.finish();
+        Ok(())
     }
-    trial.finish();
-    Ok(())
 }

@@ -12,10 +12,7 @@ pub struct KeyedPriorityQueue<K, P> {
 
 impl<K, P> Default for KeyedPriorityQueue<K, P> {
     fn default() -> Self {
-        Self {
-            heap: Vec::new(),
-            position: HashMap::new(),
-        }
+        Self { heap: Vec::new(), position: HashMap::new() }
     }
 }
 
@@ -96,11 +93,7 @@ impl<K: Hash + Eq + Clone, P: Ord> KeyedPriorityQueue<K, P> {
                 return;
             }
             let right = left + 1;
-            let child = if right < self.heap.len() && self.heap[right].1 > self.heap[left].1 {
-                right
-            } else {
-                left
-            };
+            let child = if right < self.heap.len() && self.heap[right].1 > self.heap[left].1 { right } else { left };
             if self.heap[child].1 <= self.heap[at].1 {
                 return;
             }

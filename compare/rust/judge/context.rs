@@ -6,8 +6,8 @@ use std::time::{Duration, Instant};
 use bytes::Bytes;
 use calls::{Acked, Loss, LossRun, Pushed, Refusal, Run};
 
-use super::Action;
 use crate::{
+    action::Action,
     connection::{ConnectionSettings, ConnectionStatus},
     packet::{Acknowledgement, CompressedLossList, ControlTypes, DataPacket, SeqNumber},
     protocol::{
@@ -50,13 +50,8 @@ impl Context {
 
     fn with(&mut self, call: impl FnOnce(&mut SenderContext)) -> Seen {
         let mut seen = Seen::default();
-        let mut context = SenderContext::new(
-            &mut self.status,
-            &mut self.timers,
-            &mut seen.output,
-            &mut seen.stats,
-            &mut self.sender,
-        );
+        let mut context =
+            SenderContext::new(&mut self.status, &mut self.timers, &mut seen.output, &mut seen.stats, &mut self.sender);
         call(&mut context);
         seen
     }
@@ -72,12 +67,7 @@ impl Context {
         assert_eq!(counts, answer, "two ways: removed");
     }
 
-    pub(super) fn ack(
-        &mut self,
-        now: Instant,
-        ack: Acknowledgement,
-        direct: &Result<Acked, Refusal>,
-    ) {
+    pub(super) fn ack(&mut self, now: Instant, ack: Acknowledgement, direct: &Result<Acked, Refusal>) {
         let seen = self.with(|context| context.handle_ack_packet(now, ack.clone()));
         let answered = match direct {
             Ok(_) => ack.full_ack_seq_number().map(ControlTypes::Ack2),
@@ -89,11 +79,8 @@ impl Context {
 
     pub(super) fn nak(&mut self, now: Instant, list: CompressedLossList, direct: &[LossRun]) {
         let seen = self.with(|context| context.handle_nak_packet(now, list));
-        let dropped: Vec<_> = direct
-            .iter()
-            .filter(|run| run.loss == Loss::Dropped)
-            .map(|run| (run.first, run.end))
-            .collect();
+        let dropped: Vec<_> =
+            direct.iter().filter(|run| run.loss == Loss::Dropped).map(|run| (run.first, run.end)).collect();
         let requests: Vec<_> = seen.output.control.iter().map(requested).collect();
         assert_eq!(requests, dropped, "two ways: drop requests");
         let counts = seen.stats.tx_loss_data + seen.stats.tx_dropped_data;

@@ -2,9 +2,9 @@
 //! parts of one sender directly and through the SenderContext of another; the
 //! two ways must agree.
 
-mod action;
 mod context;
 mod leaves;
+mod types;
 
 use std::{
     cell::RefCell,
@@ -14,10 +14,10 @@ use std::{
 use bytes::Bytes;
 use calls::{Ack, Acked, LossRun, Pushed, Ran, Refusal, Reports, Run, Sent, Settings, State};
 
-pub(crate) use action::{Action, FullTimes};
 pub use leaves::LeavesJudge;
 
 use crate::{
+    action::{self, Action, FullTimes},
     packet::{CompressedLossList, DataPacket, SeqNumber},
     protocol::sender::Sender,
 };
@@ -41,7 +41,7 @@ impl Judge {
     /// The settings are in range.
     pub fn new(settings: &Settings) -> Self {
         let start = Instant::now();
-        let connection = leaves::connection_settings(start, settings);
+        let connection = types::connection_settings(start, settings);
         Judge {
             start,
             direct: Sender::new(connection.clone()),
@@ -73,7 +73,7 @@ impl calls::Sender for Judge {
     }
 
     fn ack(&mut self, ack: &Ack) -> Result<Acked, Refusal> {
-        let ack = leaves::acknowledgement(ack);
+        let ack = types::acknowledgement(ack);
         let answer = self.direct.direct_ack(&ack);
         self.context.ack(self.start, ack, &answer);
         self.agreed += 1;
@@ -100,10 +100,7 @@ impl calls::Sender for Judge {
                 self.flushed = Some(packet.clone());
             }
         }
-        Ok(Ran {
-            records,
-            left: run.budget.saturating_sub(self.sent.len() as u32),
-        })
+        Ok(Ran { records, left: run.budget.saturating_sub(self.sent.len() as u32) })
     }
 
     fn reports(&self) -> Reports {
@@ -120,22 +117,16 @@ impl calls::Sender for Judge {
     }
 
     fn payload(&self, number: u32) -> Result<Vec<u8>, Refusal> {
-        let flushed = self
-            .flushed
-            .as_ref()
-            .filter(|packet| packet.seq_number.as_raw() == number);
+        let flushed = self.flushed.as_ref().filter(|packet| packet.seq_number.as_raw() == number);
         self.direct
             .packet(SeqNumber::new_truncate(number))
             .or(flushed)
             .map(|packet| packet.payload.to_vec())
-            .ok_or(Refusal::NotHeld)
+            .ok_or(Refusal::plain(calls::NOT_HELD))
     }
 
     fn sent(&self) -> Vec<Sent> {
-        let sent = |packet: &DataPacket| Sent {
-            header: action::header(packet),
-            payload: packet.payload.to_vec(),
-        };
+        let sent = |packet: &DataPacket| Sent { header: action::header(packet), payload: packet.payload.to_vec() };
         self.sent.iter().map(sent).collect()
     }
 

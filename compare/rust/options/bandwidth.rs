@@ -4,14 +4,8 @@ use super::{DataRate, Percent};
 
 #[derive(Clone, Debug)]
 pub enum LiveBandwidthMode {
-    Input {
-        rate: DataRate,
-        overhead: Percent,
-    },
+    Input { rate: DataRate, overhead: Percent },
     Max(DataRate),
     Unlimited,
-    Estimated {
-        expected: DataRate,
-        overhead: Percent,
-    },
+    Estimated { expected: DataRate, overhead: Percent },
 }

@@ -1,10 +1,7 @@
 //! Stands in for the units. Percent and PacketPeriod round down as document
 //! 01 says (Pacing).
 
-use std::{
-    ops::{Add, Div, Mul},
-    time::Duration,
-};
+use std::time::Duration;
 
 #[derive(Clone, Copy, Debug, PartialEq, Eq)]
 pub struct PacketCount(pub u64);
@@ -46,31 +43,6 @@ impl From<PacketSize> for usize {
     }
 }
 
-impl Add for Percent {
-    type Output = Percent;
-
-    fn add(self, other: Percent) -> Percent {
-        Percent(self.0 + other.0)
-    }
-}
-
-impl Mul<Percent> for DataRate {
-    type Output = DataRate;
-
-    fn mul(self, percent: Percent) -> DataRate {
-        let product = u128::from(self.0) * u128::from(percent.0);
-        DataRate((product / 100) as u64)
-    }
-}
-
-impl Div<PacketRate> for DataRate {
-    type Output = PacketSize;
-
-    fn div(self, packets: PacketRate) -> PacketSize {
-        PacketSize(self.0 / packets.0)
-    }
-}
-
 impl PacketPeriod {
     /// The time that a packet of this size takes; none where that is less
     /// than a microsecond.
@@ -78,4 +50,13 @@ impl PacketPeriod {
         let micros = 1_000_000 * u128::from(size.0) / u128::from(rate.0);
         (micros > 0).then(|| Duration::from_micros(micros as u64))
     }
+}
+
+operators! {
+    Add add: Percent, Percent => Percent, |a, b| Percent(a.0 + b.0);
+    Mul mul: DataRate, Percent => DataRate, |a, b| {
+        let product = u128::from(a.0) * u128::from(b.0);
+        DataRate((product / 100) as u64)
+    };
+    Div div: DataRate, PacketRate => PacketSize, |a, b| PacketSize(a.0 / b.0);
 }

@@ -2,18 +2,13 @@
 
 use std::ops::Range;
 
-use super::{FullAckSeqNumber, MsgNumber, SeqNumber};
-use crate::protocol::time::Rtt;
+use super::{FullAckSeqNumber, MsgNumber, Rtt, SeqNumber};
 
 /// An ACK: a number alone, or with what a small or full one brings.
 #[derive(Clone, Debug)]
 pub enum Acknowledgement {
     Lite(SeqNumber),
-    Other {
-        ack_number: SeqNumber,
-        rtt: Option<Rtt>,
-        full_ack: Option<FullAckSeqNumber>,
-    },
+    Other { ack_number: SeqNumber, rtt: Option<Rtt>, full_ack: Option<FullAckSeqNumber> },
 }
 
 impl Acknowledgement {
@@ -45,10 +40,7 @@ pub struct KeyingMaterialMessage;
 #[derive(Clone, Debug, PartialEq, Eq)]
 pub enum ControlTypes {
     Ack2(FullAckSeqNumber),
-    DropRequest {
-        message: MsgNumber,
-        range: Range<SeqNumber>,
-    },
+    DropRequest { message: MsgNumber, range: Range<SeqNumber> },
     KeyRefreshRequest,
 }
 

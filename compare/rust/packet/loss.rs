@@ -9,10 +9,7 @@ pub struct CompressedLossList(pub Vec<u32>);
 
 impl CompressedLossList {
     pub fn into_iter_decompressed(self) -> Decompressed {
-        Decompressed {
-            words: self.0.into_iter(),
-            left: None,
-        }
+        Decompressed { words: self.0.into_iter(), left: None }
     }
 }
 

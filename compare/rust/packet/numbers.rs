@@ -1,11 +1,7 @@
 //! Stands in for sequence, message and full ACK numbers (document 01, Numbers
 //! and their ends, and ACK).
 
-use std::{
-    cmp::Ordering,
-    fmt,
-    ops::{Add, AddAssign, Rem, Sub},
-};
+use std::{cmp::Ordering, fmt, ops::AddAssign};
 
 /// 31 bits, wraps to 0. The difference is the distance modulo 2^31; `a >= b`
 /// where the distance from b to a is below 2^30.
@@ -31,33 +27,9 @@ impl SeqNumber {
     }
 }
 
-impl Add<u32> for SeqNumber {
-    type Output = SeqNumber;
-
-    fn add(self, count: u32) -> SeqNumber {
-        SeqNumber::new_truncate(self.0.wrapping_add(count))
-    }
-}
-
 impl AddAssign<u32> for SeqNumber {
     fn add_assign(&mut self, count: u32) {
         *self = *self + count;
-    }
-}
-
-impl Sub for SeqNumber {
-    type Output = u32;
-
-    fn sub(self, other: SeqNumber) -> u32 {
-        self.0.wrapping_sub(other.0) % Self::MODULUS
-    }
-}
-
-impl Rem<u32> for SeqNumber {
-    type Output = u32;
-
-    fn rem(self, divisor: u32) -> u32 {
-        self.0 % divisor
     }
 }
 
@@ -114,10 +86,9 @@ impl FullAckSeqNumber {
     pub const INITIAL: FullAckSeqNumber = FullAckSeqNumber(1);
 }
 
-impl Add<u64> for FullAckSeqNumber {
-    type Output = FullAckSeqNumber;
-
-    fn add(self, count: u64) -> FullAckSeqNumber {
-        FullAckSeqNumber(self.0 + count)
-    }
+operators! {
+    Add add: SeqNumber, u32 => SeqNumber, |a, b| SeqNumber::new_truncate(a.0.wrapping_add(b));
+    Sub sub: SeqNumber, SeqNumber => u32, |a, b| a.0.wrapping_sub(b.0) % SeqNumber::MODULUS;
+    Rem rem: SeqNumber, u32 => u32, |a, b| a.0 % b;
+    Add add: FullAckSeqNumber, u64 => FullAckSeqNumber, |a, b| FullAckSeqNumber(a.0 + b);
 }

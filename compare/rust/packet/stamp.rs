@@ -1,11 +1,7 @@
 //! Stands in for stamps and spans: a stamp is the low 32 bits of a time in
 //! microseconds and is ordered by the nearer way round, a span is signed.
 
-use std::{
-    cmp::Ordering,
-    ops::{Add, Mul, Sub},
-    time::Duration,
-};
+use std::{cmp::Ordering, time::Duration};
 
 #[derive(Clone, Copy, Debug, PartialEq, Eq)]
 pub struct TimeStamp(u32);
@@ -28,14 +24,6 @@ impl TimeStamp {
     }
 }
 
-impl Sub for TimeStamp {
-    type Output = TimeSpan;
-
-    fn sub(self, other: TimeStamp) -> TimeSpan {
-        TimeSpan(i64::from(self.0.wrapping_sub(other.0) as i32))
-    }
-}
-
 impl Ord for TimeStamp {
     fn cmp(&self, other: &Self) -> Ordering {
         (*self - *other).0.cmp(&0)
@@ -45,22 +33,6 @@ impl Ord for TimeStamp {
 impl PartialOrd for TimeStamp {
     fn partial_cmp(&self, other: &Self) -> Option<Ordering> {
         Some(self.cmp(other))
-    }
-}
-
-impl Add<TimeSpan> for TimeStamp {
-    type Output = TimeStamp;
-
-    fn add(self, span: TimeSpan) -> TimeStamp {
-        self.after(span.0)
-    }
-}
-
-impl Add<Duration> for TimeStamp {
-    type Output = TimeStamp;
-
-    fn add(self, duration: Duration) -> TimeStamp {
-        self.after(duration.as_micros() as i64)
     }
 }
 
@@ -74,26 +46,11 @@ impl TimeSpan {
     }
 }
 
-impl Add for TimeSpan {
-    type Output = TimeSpan;
-
-    fn add(self, other: TimeSpan) -> TimeSpan {
-        TimeSpan(self.0 + other.0)
-    }
-}
-
-impl Add<Duration> for TimeSpan {
-    type Output = TimeSpan;
-
-    fn add(self, duration: Duration) -> TimeSpan {
-        TimeSpan(self.0 + duration.as_micros() as i64)
-    }
-}
-
-impl Mul<TimeSpan> for i32 {
-    type Output = TimeSpan;
-
-    fn mul(self, span: TimeSpan) -> TimeSpan {
-        TimeSpan(i64::from(self) * span.0)
-    }
+operators! {
+    Sub sub: TimeStamp, TimeStamp => TimeSpan, |a, b| TimeSpan(i64::from(a.0.wrapping_sub(b.0) as i32));
+    Add add: TimeStamp, TimeSpan => TimeStamp, |a, b| a.after(b.0);
+    Add add: TimeStamp, Duration => TimeStamp, |a, b| a.after(b.as_micros() as i64);
+    Add add: TimeSpan, TimeSpan => TimeSpan, |a, b| TimeSpan(a.0 + b.0);
+    Add add: TimeSpan, Duration => TimeSpan, |a, b| TimeSpan(a.0 + b.as_micros() as i64);
+    Mul mul: i32, TimeSpan => TimeSpan, |a, b| TimeSpan(i64::from(a) * b.0);
 }

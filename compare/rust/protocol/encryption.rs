@@ -10,10 +10,7 @@ impl Encryption {
         Encryption
     }
 
-    pub fn encrypt(
-        &mut self,
-        packet: DataPacket,
-    ) -> Option<(usize, DataPacket, Option<KeyingMaterialMessage>)> {
+    pub fn encrypt(&mut self, packet: DataPacket) -> Option<(usize, DataPacket, Option<KeyingMaterialMessage>)> {
         Some((0, packet, None))
     }
 

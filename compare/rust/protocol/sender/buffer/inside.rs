@@ -7,24 +7,14 @@ use bytes::Bytes;
 
 use super::*;
 use crate::{
-    judge::{Action, FullTimes},
+    action::{Action, FullTimes},
     protocol::sender::Sender,
 };
 
 impl Sender {
-    pub(crate) fn direct_message(
-        &mut self,
-        time: Instant,
-        now: Instant,
-        data: Bytes,
-    ) -> calls::Pushed {
+    pub(crate) fn direct_message(&mut self, time: Instant, now: Instant, data: Bytes) -> calls::Pushed {
         let stamp = self.time_base.timestamp_from(time);
-        let mut answer = calls::Pushed {
-            made: 0,
-            removed: 0,
-            removed_bytes: 0,
-            period: None,
-        };
+        let mut answer = calls::Pushed { made: 0, removed: 0, removed_bytes: 0, period: None };
         let mut bytes = 0;
         for packet in self.encapsulation.encapsulate(stamp, data) {
             answer.made += 1;
@@ -41,38 +31,24 @@ impl Sender {
         answer
     }
 
-    pub(crate) fn direct_ack(
-        &mut self,
-        ack: &Acknowledgement,
-    ) -> Result<calls::Acked, calls::Refusal> {
-        let answer = self.send_buffer.update_largest_acked_seq_number(
-            ack.ack_number(),
-            ack.full_ack_seq_number(),
-            ack.rtt(),
-        );
+    pub(crate) fn direct_ack(&mut self, ack: &Acknowledgement) -> Result<calls::Acked, calls::Refusal> {
+        let answer =
+            self.send_buffer.update_largest_acked_seq_number(ack.ack_number(), ack.full_ack_seq_number(), ack.rtt());
         match answer {
             Ok(action) => Ok(calls::Acked {
                 received: action.received,
                 recovered: action.recovered,
                 full: action.send_ack2.map(|full| full.0 as u32),
             }),
-            Err(AckError::SendBufferEmpty) => Err(calls::Refusal::Empty),
-            Err(AckError::InvalidAck {
-                ack_number,
-                first,
-                next,
-            }) => Err(calls::Refusal::InvalidAck {
-                ack: ack_number.as_raw(),
-                first: first.as_raw(),
-                next: next.as_raw(),
-            }),
-            Err(AckError::InvalidFullAck {
-                received_full_ack,
-                next_full_ack,
-            }) => Err(calls::Refusal::StaleFullAck {
-                full: received_full_ack.0,
-                expected: next_full_ack.0,
-            }),
+            Err(AckError::SendBufferEmpty) => Err(calls::Refusal::plain(calls::EMPTY)),
+            Err(AckError::InvalidAck { ack_number, first, next }) => {
+                let values = [ack_number, first, next].map(|number| u64::from(number.as_raw()));
+                Err(calls::Refusal::with(calls::INVALID_ACK, values))
+            }
+            Err(AckError::InvalidFullAck { received_full_ack, next_full_ack }) => {
+                let values = [received_full_ack.0, next_full_ack.0, 0];
+                Err(calls::Refusal::with(calls::STALE_FULL_ACK, values))
+            }
         }
     }
 
@@ -101,13 +77,9 @@ impl Sender {
                 SenderAction::RetransmitNak(packet) => Action::Packet(3, packet),
                 SenderAction::Drop(range) => Action::Drop(range),
                 SenderAction::WaitForInput => Action::WaitForInput,
-                SenderAction::WaitForAck {
-                    window_size,
-                    unacked_packets,
-                } => Action::WaitForAck {
-                    window_size,
-                    unacked_packets,
-                },
+                SenderAction::WaitForAck { window_size, unacked_packets } => {
+                    Action::WaitForAck { window_size, unacked_packets }
+                }
             })
             .collect()
     }
@@ -132,9 +104,7 @@ impl Sender {
 
 impl SendBuffer {
     fn due(&self, number: SeqNumber) -> Option<TimeStamp> {
-        self.rto_queue
-            .get_priority(&number)
-            .map(|Reverse((due, _))| *due)
+        self.rto_queue.get_priority(&number).map(|Reverse((due, _))| *due)
     }
 
     fn books(&self, times: &FullTimes, out: &mut calls::State) {
@@ -154,12 +124,9 @@ impl SendBuffer {
         }
         out.next_unsent = self.next_send.as_raw();
         out.lost.clear();
-        out.lost
-            .extend(self.lost_list.iter().map(|number| number.as_raw()));
-        out.rtt = calls::Rtt {
-            mean: self.rtt.mean().as_micros() as u32,
-            variance: self.rtt.variance().as_micros() as u32,
-        };
+        out.lost.extend(self.lost_list.iter().map(|number| number.as_raw()));
+        out.rtt =
+            calls::Rtt { mean: self.rtt.mean().as_micros() as u32, variance: self.rtt.variance().as_micros() as u32 };
         out.bytes = self.buffer_len_bytes as u64;
         out.expected_full = self.next_full_ack.0;
         out.resend_entries = self.rto_queue.len() as u64;

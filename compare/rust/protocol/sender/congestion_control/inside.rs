@@ -1,7 +1,7 @@
-//! Reads the private books of pacing, and answers as the leaf.
+//! Reads the private books of pacing, and paces alone.
 
 use super::*;
-use crate::protocol::sender::Sender;
+use crate::{action::Paced, protocol::sender::Sender};
 
 impl RateEstimation {
     fn since_last(&self) -> u64 {
@@ -24,35 +24,19 @@ impl SenderCongestionControl {
     }
 }
 
-struct PacingJudge {
-    start: Instant,
-    control: SenderCongestionControl,
-}
-
-impl calls::Pacing for PacingJudge {
-    fn on_input(
-        &mut self,
-        now: u64,
-        packets: u64,
-        bytes: u64,
-    ) -> Result<Option<u64>, calls::Refusal> {
-        let now = self.start + Duration::from_micros(now);
-        let period = self
-            .control
-            .on_input(now, PacketCount(packets), ByteCount(bytes));
-        Ok(period.map(|period| period.as_micros() as u64))
+impl Paced for SenderCongestionControl {
+    fn input(&mut self, now: Instant, packets: u64, bytes: u64) -> Option<u64> {
+        let period = self.on_input(now, PacketCount(packets), ByteCount(bytes));
+        period.map(|period| period.as_micros() as u64)
     }
 
-    fn state(&self) -> calls::PacingState {
-        self.control.books(self.start)
+    fn state(&self, start: Instant) -> calls::PacingState {
+        self.books(start)
     }
 }
 
 impl Sender {
-    pub(crate) fn pacing(start: Instant, mode: LiveBandwidthMode) -> Box<dyn calls::Pacing> {
-        Box::new(PacingJudge {
-            start,
-            control: SenderCongestionControl::new(mode),
-        })
+    pub(crate) fn pacing(mode: LiveBandwidthMode) -> Box<dyn Paced> {
+        Box::new(SenderCongestionControl::new(mode))
     }
 }

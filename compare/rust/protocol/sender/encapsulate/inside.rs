@@ -19,8 +19,6 @@ impl Encapsulation {
 impl Sender {
     /// The packets of one message under these settings.
     pub(crate) fn split(settings: &ConnectionSettings, data: Bytes) -> Vec<DataPacket> {
-        Encapsulation::new(settings)
-            .encapsulate(TimeStamp::from_micros(0), data)
-            .collect()
+        Encapsulation::new(settings).encapsulate(TimeStamp::from_micros(0), data).collect()
     }
 }
