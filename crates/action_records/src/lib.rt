@@ -1,4 +1,6 @@
 // The action records that a run writes: document 01, "Action record". Made as 24 bytes by value and copied into the lent list.
+#![tactic(auto)]
+
 ghost use Rattle.std.specs.Prelude.{◌≡◌, ◌+◌, ◌*◌, ◌≤◌, length};
 ghost use Rattle.std.proofs.Math.Seq.{paste};
 ghost use Rattle.rules.specs.Records.{encode};

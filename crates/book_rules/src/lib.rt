@@ -1,5 +1,7 @@
 // The book rules, checked on the kept numbers and the lent areas. Document 01, "Book rules": "A host entry checks
 // them"; refusal 3, BadState, is given exactly where `kept` is false.
+#![tactic(auto)]
+
 ghost use Rattle.std.specs.Prelude.{◌≡◌, ◌≤◌, take, drop};
 ghost use Rattle.ring.specs.Ring.{packets};
 ghost use Rattle.ring.specs.Ring.Laws.{Placed};

@@ -1,6 +1,8 @@
 // The send buffer's books: what a sender keeps besides the lent areas. Document 01, "Numbers and their ends", "Book
 // rules" and the reports of "What the hub takes from the crate"; the Rust's `SendBuffer`. The packets lie in a lent
 // ring of entries, the loss list in a lent area.
+#![tactic(auto)]
+
 ghost use Rattle.std.specs.Prelude.{◌≡◌, ◌-◌, ◌≤◌, max, ltb, take};
 ghost use Rattle.ring.specs.Ring.Laws.{Placed};
 ghost use Rattle.rules.specs.Settings.{capacity, late_window};

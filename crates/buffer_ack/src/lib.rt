@@ -1,4 +1,6 @@
 // An ACK on the send buffer: document 01, "ACK", and refusals 9 to 11; the Rust's `update_largest_acked_seq_number`.
+#![tactic(auto)]
+
 ghost use Rattle.std.specs.Prelude.{◌≡◌};
 ghost use Rattle.rules.specs.Ack.{given, expect};
 ghost use Rattle.rules.specs.Refusals.{full_verdict};

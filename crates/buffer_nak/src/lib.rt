@@ -1,4 +1,6 @@
 // A loss report on the send buffer: document 01, "Loss words"; the Rust's `add_to_loss_list`.
+#![tactic(auto)]
+
 ghost use Rattle.std.specs.Prelude.{◌≡◌, take};
 ghost use Rattle.loss_list.specs.LossList.Laws.{Fits, Left};
 ghost use Rattle.buffer_nak.specs.Report.{enter_run, left, add};

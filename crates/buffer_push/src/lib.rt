@@ -1,5 +1,7 @@
 // A message enters the send buffer: document 01, "Message" and "Byte count"; the Rust's `SendBuffer::push_data`, once
 // for each packet of the message. The layer above has checked the books and the message before it calls this.
+#![tactic(auto)]
+
 ghost use Rattle.std.specs.Prelude.{◌≡◌, ◌+◌, ◌*◌, ◌≤◌, ◌<◌};
 ghost use Rattle.rules_packets.specs.Header.{place_bits};
 ghost use Rattle.ring.specs.Entry.{entry};

@@ -1,5 +1,7 @@
 // The run: document 01, "Run"; the Rust's `next_snd_actions` with its `SenderAlgorithmIterator`. The crate run_choice
 // decides which rule applies, run_effects does what the rule says, and this crate is the loop over both.
+#![tactic(auto)]
+
 ghost use Rattle.std.specs.Prelude.{◌≡◌, ◌-◌};
 ghost use Rattle.buffer.specs.State.{settings_of, state};
 ghost use Rattle.buffer_run.specs.Run.{walk, run};

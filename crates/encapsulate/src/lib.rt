@@ -1,5 +1,7 @@
 // How a message becomes packets, and the header of each: document 01, "Message" and "Header"; the Rust's encapsulate.rs. The buffer keeps
 // what the Rust's `Encapsulation` keeps, the next message number and the next sequence number.
+#![tactic(auto)]
+
 ghost use Rattle.std.specs.Prelude.{◌≡◌, ◌≤◌, ◌<◌, min};
 ghost use Rattle.rules_packets.specs.Header.{place_bits, bit, second, header, stamp};
 ghost use Rattle.rules_packets.specs.Split.{judge, split, place_of, piece_of, nth, piece};

@@ -4,6 +4,8 @@
 //   senders, pacings                     what is kept
 //   refused                              why a call is refused
 //   starts, replies, acks, questions     the answers of new; message, nak, run; ack; payload, reports
+#![tactic(auto)]
+
 pub mod acks;
 pub mod pacings;
 pub mod questions;

@@ -1,5 +1,7 @@
 // The answers of the timers' calls as numbers, for a host in another language: document 01, "Timers". A refused call
 // returns the timers it was given; a refused `new` returns zeros.
+#![tactic(auto)]
+
 ghost use Rattle.std.specs.Prelude.{◌≡◌};
 ghost use Rattle.host_timers.specs.TimersAnswers.{told, nanoseconds, blanks, timers_set, timers_checked, next_message};
 

@@ -1,6 +1,8 @@
 // The loss list: a sorted array in the first `len` elements of a lent area. Document 01, "Loss words", "ACK", "Run" 2
 // and "Book rules"; the Rust's `lost_list`, a `BTreeSet` in `SendBuffer`. It is ordered by distance from the front,
 // farthest first: what is resent or acknowledged is removed from the end, where no entry has to move.
+#![tactic(auto)]
+
 ghost use Rattle.std.specs.Prelude.{◌≡◌, ◌+◌, ◌-◌, ◌≤◌, length, take, get_or};
 ghost use Rattle.rules_numbers.specs.Modular.{seqs, dist};
 ghost use Rattle.loss_list.specs.LossList.{entered, staying, in_order, keeps};

@@ -1,5 +1,7 @@
 // A reader of loss words: document 01, "The decompressed loss iterator becomes a reader that holds the lent words and
 // its place". `loss_words::step_at` reads the item at a place.
+#![tactic(auto)]
+
 ghost use Rattle.std.specs.Prelude.{◌≡◌, length};
 ghost use Rattle.loss_reader.specs.Reading.{start, here, moved, counts};
 

@@ -1,4 +1,6 @@
 // The words of a loss report: document 01, "Loss words"; the Rust's `LossIterator` and its decompressed loss list.
+#![tactic(auto)]
+
 ghost use Rattle.std.specs.Prelude.{◌≡◌};
 ghost use Rattle.rules.specs.Losses.{words_of};
 ghost use Rattle.loss_words.specs.Words.{step_at, width_of, item_of, judged};

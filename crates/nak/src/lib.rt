@@ -1,4 +1,6 @@
 // A loss report: document 01, "Loss words", refusals 2, 3, 12 and 13. It takes any input.
+#![tactic(auto)]
+
 ghost use Rattle.std.specs.Prelude.{◌≡◌, ◌/◌};
 ghost use Rattle.rules.specs.Losses.{words_of};
 ghost use Rattle.rules.specs.Refusals.{words_verdict};

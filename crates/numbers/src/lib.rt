@@ -1,5 +1,7 @@
 // Sequence numbers and message numbers: document 01, "Numbers and their ends"; the Rust source doesn't include them.
 // They are two types, so that one can't be used for the other. What holds of both is proved once, over the modulus.
+#![tactic(auto)]
+
 ghost use Rattle.std.specs.Prelude.{◌≡◌};
 ghost use Rattle.rules_numbers.specs.Modular.{seqs, msgs, plus, dist};
 

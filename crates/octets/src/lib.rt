@@ -1,5 +1,7 @@
 // Bytes: copied into a lent area (payloads into the store, records into a list), and numbers written as bytes and read from them. Document 01:
 // "Only pushed payload bytes change"; "Bytes after the last record stay."; records are little-endian, headers big-endian.
+#![tactic(auto)]
+
 ghost use Rattle.std.specs.Prelude.{◌≡◌, ◌+◌, ◌≤◌, ◌<◌, ◌^◌, ◌++◌, length};
 ghost use Rattle.std.proofs.Math.Seq.{paste, slice};
 ghost use Rattle.rules_numbers.specs.Bytes.{little, big, from_little};

@@ -1,6 +1,8 @@
 // Live pacing: document 01, "Pacing"; the Rust's sender/congestion_control.rs. Input is counted, the rates are
 // estimated from the counts every 100,000 µs, and the period between two packets follows from the rates and the
 // bandwidth mode.
+#![tactic(auto)]
+
 ghost use Rattle.std.specs.Prelude.{◌≡◌, ◌+◌, ◌≤◌, ◌<◌, ◌^◌, min, max};
 ghost use Rattle.rate.specs.Laws.{Ranged};
 ghost use Rattle.rules_pacing.specs.Period.{allowed, period};

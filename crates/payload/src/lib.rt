@@ -1,4 +1,6 @@
 // Where a payload lies in the store: document 01, refusals 2, 3, 7 and 14. It takes any input.
+#![tactic(auto)]
+
 ghost use Rattle.std.specs.Prelude.{◌≡◌, ◌≤◌};
 ghost use Rattle.sender.specs.SenderAndAreas.{books};
 ghost use Rattle.payload.specs.Payload.{held_at, flushed_at, find_in, payload_verdict, payload};

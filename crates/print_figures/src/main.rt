@@ -1,5 +1,7 @@
 // Document 01's figures on splitting and the header, and headers seen on the wire of a real receiver, computed by the
 // proved code and printed. The gate compares what is printed with crates/print_figures/stdout.
+#![tactic(auto)]
+
 use libc::STDOUT_FILENO;
 use rules_numbers::{MsgNumber, SeqNumber};
 use rules_packets::{Cutting, Place, Split};

@@ -1,4 +1,6 @@
 // How much comes in per second, estimated from the counts: document 01, "Pacing"; the Rust's `RateEstimation`.
+#![tactic(auto)]
+
 ghost use Rattle.std.specs.Prelude.{◌≡◌, cond, ◌+◌, ◌≤◌, ◌<◌, ◌^◌};
 ghost use Rattle.rules_pacing.specs.Rate.{elapsed, rate, still, new_mean, apart, estimate, increment, passes, in_range};
 ghost use Rattle.rate.specs.Laws.{Ranged};

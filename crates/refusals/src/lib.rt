@@ -1,4 +1,6 @@
 // Why a call is refused: document 01, "Refusal numbers". Every call answers with one of these, or does what was asked.
+#![tactic(auto)]
+
 ghost use Rattle.std.specs.Prelude.{◌≡◌};
 ghost use Rattle.rules_refusals.specs.Table.{Numbered};
 ghost use Rattle.rules_refusals.specs.Verdict.{when};

@@ -1,5 +1,7 @@
 // Answers a stored script of calls of the leaves: 64 bytes in for each call, a line out. The gate holds the lines against crates/replay/stdout,
 // which the Rust wrote (compare/README.md, "The stored sample"), so that a clone without the Rust still hears what it answers.
+#![tactic(auto)]
+
 use compare_entries::of_pacing::compare_pacing_new;
 use compare_entries::of_timer::compare_timer_new;
 use host_structs::pacings::FlatPacing;

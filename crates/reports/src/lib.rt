@@ -1,4 +1,6 @@
 // The reports on the buffer: document 01, "What the hub takes from the crate", refusals 2 and 3. It takes any input.
+#![tactic(auto)]
+
 ghost use Rattle.std.specs.Prelude.{◌≡◌};
 ghost use Rattle.sender.specs.SenderAndAreas.{books};
 ghost use Rattle.reports.specs.Reports.{reports};

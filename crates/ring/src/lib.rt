@@ -1,5 +1,7 @@
 // The buffered packets in a lent area: a ring of entries, six words each, in place of the Rust's
 // `VecDeque<SendBufferEntry>`. Document 01, "What must change shape". The buffer above has checked its books.
+#![tactic(auto)]
+
 ghost use Rattle.std.specs.Prelude.{◌≡◌, ◌+◌, ◌*◌, ◌≤◌, ◌<◌, length};
 ghost use Rattle.ring.specs.Entry.{word_of, read_e, write_e};
 ghost use Rattle.ring.specs.Ring.{wrap_of, slot_of, pushed, removed, placed};

@@ -1,4 +1,6 @@
 // The round-trip time: document 01, "Numbers and their ends"; the Rust source doesn't include `Rtt`.
+#![tactic(auto)]
+
 ghost use Rattle.std.specs.Prelude.{◌≡◌};
 ghost use Rattle.rules_numbers.specs.Rtt.{start, in_range};
 

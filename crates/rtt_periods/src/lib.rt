@@ -1,5 +1,7 @@
 // The periods that follow from a round-trip time: document 01, "Timers"; the Rust's `calculate_periods` in time/mod.rs.
 // All are nanoseconds.
+#![tactic(auto)]
+
 ghost use Rattle.std.specs.Prelude.{◌≡◌, max};
 ghost use Rattle.rules_numbers.specs.Rtt.{Ranged};
 ghost use Rattle.rules_timers.specs.Periods.{nak_period, exp_period, calculate_periods};

@@ -1,4 +1,5 @@
 // Document 01, "Numbers and their ends": the two kinds of number and the round-trip time, as types. What is said of them stands in specs/.
+#![tactic(auto)]
 
 // A time at or over this many microseconds is refused.
 pub const TIME_LIMIT: u64 = 1 << 48;

@@ -1,4 +1,6 @@
 // Document 01, "Pacing", as types: what is kept, and the answers. The rules for them are in specs/.
+#![tactic(auto)]
+
 use rules_refusals::Refusal;
 
 // The count since the last estimate (the Rust's `total` less `last`), and that estimate, per second.

@@ -1,4 +1,6 @@
 // Document 01, "Message" and "Header": the types. How a message is split, and the header, are defined in specs/.
+#![tactic(auto)]
+
 use rules_refusals::Refusal;
 
 // A packet's place in its message.

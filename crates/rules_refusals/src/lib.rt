@@ -1,4 +1,6 @@
 // Document 01, "Refusal numbers", as types. The table, and the order of the tests, are in specs/.
+#![tactic(auto)]
+
 use rules_numbers::SeqNumber;
 
 // The refusals in the order of their numbers, with only the values that document 01's table names.

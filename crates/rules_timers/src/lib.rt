@@ -1,4 +1,6 @@
 // Document 01, "Timers", as types: what is kept, and the answers. The rules for them are in specs/.
+#![tactic(auto)]
+
 use rules_refusals::Refusal;
 
 // Times, in nanoseconds, must be below this.

@@ -1,4 +1,6 @@
 // The sender's run: document 01, "Run", with refusals 2, 3, 4 and 13. It takes any input and works in lent areas.
+#![tactic(auto)]
+
 ghost use Rattle.std.specs.Prelude.{◌≡◌, min};
 ghost use Rattle.sender.specs.SenderAndAreas.{books};
 ghost use Rattle.run.specs.Runs.{room_for, run_verdict, runs, run};

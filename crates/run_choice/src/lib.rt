@@ -1,4 +1,6 @@
 // Which rule of a run applies: document 01, "Run", rules 1 to 7; the order of the Rust's `SenderAlgorithmIterator`.
+#![tactic(auto)]
+
 ghost use Rattle.std.specs.Prelude.{◌≡◌, ◌+◌, ◌^◌, ◌≤◌, ◌<◌, ltb, eqb, ◌&&◌};
 ghost use Rattle.std.proofs.Math.Option.{none};
 ghost use Rattle.rules.specs.Settings.{late_window};

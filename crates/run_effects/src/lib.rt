@@ -5,6 +5,8 @@
 //   resend    rules 2 and 3, resends
 //   leaving   rules 1 and 6, which remove packets from the buffer
 //   waits     rules 4 and 7
+#![tactic(auto)]
+
 use buffer::SendBuffer;
 
 pub mod leaving;

@@ -3,6 +3,8 @@
 //   new, message, ack   the calls, on `Sender`, and the types of their answers
 //   push, finished      a message that no test refuses
 //   acknowledge         an ACK's answer
+#![tactic(auto)]
+
 ghost use Rattle.std.specs.Prelude.{◌≡◌};
 ghost use Rattle.sender.specs.SenderAndAreas.{books};
 ghost use Rattle.sender.specs.Acks.{acknowledged, ack};

@@ -1,5 +1,7 @@
 // Answers stored sessions of the sender: 64 bytes in for each call, its answer out as docs/SCRIPTS.md writes it. The gate holds the answers
 // against crates/sessions/stdout, which the Rust wrote (compare/README.md, "The stored sessions").
+#![tactic(auto)]
+
 use sender::Sender;
 use stored::{Record, low};
 

@@ -1,5 +1,7 @@
 // Stored calls, which the programs replay: eight numbers of eight bytes, each with its lowest byte first. The first is the operation, the
 // others its arguments.
+#![tactic(auto)]
+
 ghost use Rattle.std.specs.Prelude.{◌≡◌, ◌≤◌, ◌%◌, ◌/◌, ◌^◌, min};
 ghost use Rattle.stored.specs.Stored.{number, call};
 

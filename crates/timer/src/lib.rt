@@ -1,4 +1,6 @@
 // One timer: document 01, "Timers"; the Rust's time/timer.rs.
+#![tactic(auto)]
+
 ghost use Rattle.std.specs.Prelude.{◌≡◌, max};
 ghost use Rattle.rules_timers.specs.Timer.{shortest_new, kept, started, made, period_of, next_instant, reset, set_period, ticked, check_expired};
 ghost use Rattle.timer.specs.Laws.{Held};

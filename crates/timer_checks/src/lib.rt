@@ -1,5 +1,7 @@
 // Checking a timer: document 01, "Timers"; the Rust's `check_snd` and the like in time/mod.rs, and the idle timer,
 // which depends on EXP. When the host must wake is in `wake`. Times are nanoseconds.
+#![tactic(auto)]
+
 ghost use Rattle.std.specs.Prelude.{◌≡◌, ◌+◌, min};
 ghost use Rattle.rules_timers.specs.Timer.{most};
 ghost use Rattle.rules_timers.specs.Checks.{timer_of, with_timer, check, check_snd, check_full_ack, check_nak, check_statistics, heard, idle_after, idle, check_peer_idle_timeout};

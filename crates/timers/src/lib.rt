@@ -1,5 +1,7 @@
 // The timers of a sender, made and set: document 01, "Timers"; the Rust's time/mod.rs. Times are nanoseconds,
 // round-trip times microseconds.
+#![tactic(auto)]
+
 ghost use Rattle.std.specs.Prelude.{◌≡◌};
 ghost use Rattle.rules_timers.specs.Timers.{kept_all, judge, judge_new, judge_period, judge_rtt, begun, new, update_snd_period, update_rtt, reset_exp};
 
