@@ -6,7 +6,7 @@ use Rattle.std.specs.Prelude.{List, ℕ, ◌^◌}
 use Rattle.loss_words.specs.Words.{width_of}
 use Rattle.loss_words.specs.Words.Laws.{parse-some}
 use Rattle.loss_reader.specs.Reading.{start, here, moved, counts}
-use Rattle.loss_reader.specs.Reading.Counting.{Turn, standing, turn-first, turn-ends, turn_on, turn-fits}
+use Rattle.loss_reader.proofs.Reading.Counting.{Turn, standing, turn-first, turn-ends, turn_on, turn-fits}
 use Rattle.loss_reader.proofs.count.Goals as goal
 use Rattle.loss_reader.proofs.count.Goals.{After-width}
 

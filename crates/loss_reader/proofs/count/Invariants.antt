@@ -1,5 +1,5 @@
 use Rattle.std.proofs.Common.{◌≡◌, length, ◌-◌}
-use Rattle.loss_reader.specs.Reading.Counting.{Turn, standing}
+use Rattle.loss_reader.proofs.Reading.Counting.{Turn, standing}
 use Rattle.loss_reader.proofs.count.Given as goal
 
 -- The reader stands at a turn of the count of the words that it began with.

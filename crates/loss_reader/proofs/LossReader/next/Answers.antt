@@ -1,7 +1,7 @@
--- `loss_reader::LossReader::next`: the place after a reading fits, since it is at most the one before or within the words.
+-- `loss_reader::LossReader::next`: the place after a reading fits, since it is the one before or within the words.
 use Rattle.std.proofs.Common.{length, ◌<◌, ◌^◌, rules}
 use Rattle.std.proofs.Math.Facts.{Fits-of_lt}
-use Rattle.loss_reader.specs.Reading.Laws.{moved-fits}
+use Rattle.loss_reader.proofs.Reading.Laws.{moved-fits}
 use Rattle.loss_reader.proofs.LossReader.next.Goals as goal
 
 pub overflow_add-self : goal.overflow_add-self
