@@ -7,8 +7,6 @@
 --   reads n r      what n readings give, up to the end of the words or the first bad item
 --   counts n r     how many items come, in n readings, before a place that has none
 --   tally w more   one more than `more` if the step is some words wide, else 0
-pub mod Counting
-pub mod Laws
 use Rattle.std.specs.Prelude.{List, [], ℕ, zero, suc, ◌+◌}
 use Rattle.std.specs.Borrow.{Bor}
 use Rattle.rules.specs.Losses.{Words, items, bad, before}

@@ -16,7 +16,7 @@ use Rattle.loss_words.specs.declared.Step.{Step}
 use Rattle.loss_words.specs.declared.Step.TheVariants.{One, Range, Bad, End}
 use Rattle.loss_reader.specs.declared.LossReader.{LossReader}
 use Rattle.loss_reader.specs.Reading.{start, here, moved, given, reads, tally, counts}
-use Rattle.loss_reader.specs.Reading.Laws.{reads_all}
+use Rattle.loss_reader.proofs.Reading.Laws.{reads_all}
 
 counts-none : (n : ℕ) (r : LossReader) → width_of (here r) ≡ 0 → counts n r ≡ 0
 unfolding counts
