@@ -61,7 +61,9 @@ fn main(rt: HostRuntime) -> io::Result<()> {
     split(out, 4)?;
     split(out, 5)?;
     split(out, 8)?;
-    println!(out; "number 5, only packet of message 0, stamp 1,000, id 0x11223344, sent and sent again:")?;
+    println!(out;
+        "number 5, only packet of message 0, stamp 1,000, id 0x11223344, sent and sent again:"
+    )?;
     only(out, false, 5, 0, 1_000, 0x1122_3344)?;
     only(out, true, 5, 0, 1_000, 0x1122_3344)?;
     println!(out; "two headers from the wire of a real receiver:")?;
