@@ -2,88 +2,79 @@
 // proved code and printed. The gate compares what is printed with crates/print_figures/stdout.
 #![tactic(auto)]
 
-use libc::STDOUT_FILENO;
 use rules_numbers::{MsgNumber, SeqNumber};
 use rules_packets::{Cutting, Place, Split};
-use rules_timers::{Timer, Timers, TimersSet};
-
-fn text(bytes: &[u8]) {
-    io::write_all(STDOUT_FILENO, bytes);
-}
-
-fn decimal(n: u64) {
-    io::print_decimal(STDOUT_FILENO, n);
-}
+use rules_timers::{Timer, TimersSet};
+use std::io;
 
 // A message of `len` bytes in packets of four: how many, and the place of the first.
-fn split(len: usize) {
-    text(b"size 4, length ");
-    decimal(len as u64);
+fn split(rt: &impl Print, len: usize) -> io::Result<()> {
+    print!(rt; "size 4, length {len}")?;
     if let Split::Packets(n) = encapsulate::packets(len, 4) {
-        text(b": ");
-        decimal(n as u64);
+        print!(rt; ": {n}")?;
     }
     if let Cutting::Done(piece) = encapsulate::packet(len, 4, 0) {
-        let place = piece.place;
-        text(b" packets, the first with place ");
-        decimal((encapsulate::place_bits(place) / 2) as u64);
-        decimal((encapsulate::place_bits(place) % 2) as u64);
+        let bits = encapsulate::place_bits(piece.place);
+        print!(rt; " packets, the first with place {}{}", bits / 2, bits % 2)?;
     }
-    text(b"\n");
+    println!(rt;)
 }
 
 // A header's sixteen bytes as four words in hex.
-fn show(h: [u8; 16]) {
-    let mut i = 0;
-    while i < 16 {
+fn show(rt: &impl Print, h: [u8; 16]) -> io::Result<()> {
+    for i in 0..16 {
         if i % 4 == 0 {
-            text(b" ");
+            print!(rt; " ")?;
         }
-        let byte = h[i];
-        io::print_hex(STDOUT_FILENO, byte as u64, 2);
-        i += 1;
+        print!(rt; "{:02x}", h[i])?;
     }
-    text(b"\n");
+    println!(rt;)
 }
 
 // The header of a message's only packet; `again` if it was sent before.
-fn only(again: bool, number: u32, message: u32, stamp: u32, id: u32) {
-    show(encapsulate::header(
+fn only(
+    rt: &impl Print,
+    again: bool,
+    number: u32,
+    message: u32,
+    stamp: u32,
+    id: u32,
+) -> io::Result<()> {
+    let header = encapsulate::header(
         Place::Only,
         again,
         SeqNumber(number),
         MsgNumber(message),
         stamp,
         id,
-    ));
+    );
+    show(rt, header)
 }
 
-fn period(name: &[u8], t: Timer) {
-    text(name);
-    decimal(t.period);
-    text(b" ns\n");
+fn period(rt: &impl Print, name: &str, t: Timer) -> io::Result<()> {
+    println!(rt; "{name} {} ns", t.period)
 }
 
-fn main() {
-    split(0);
-    split(4);
-    split(5);
-    split(8);
-    text(b"number 5, only packet of message 0, stamp 1,000, id 0x11223344, sent and sent again:\n");
-    only(false, 5, 0, 1_000, 0x1122_3344);
-    only(true, 5, 0, 1_000, 0x1122_3344);
-    text(b"two headers from the wire of a real receiver:\n");
-    only(false, 0x09d9_589a, 2, 0x6ee, 0x3900_e136);
-    only(true, 0x09d9_5cc6, 0x42e, 0xbe0, 0x3900_e136);
-    text(b"the timers at the start:\n");
+fn main(rt: HostRuntime) -> io::Result<()> {
+    let out = &rt;
+    split(out, 0)?;
+    split(out, 4)?;
+    split(out, 5)?;
+    split(out, 8)?;
+    println!(out;
+        "number 5, only packet of message 0, stamp 1,000, id 0x11223344, sent and sent again:"
+    )?;
+    only(out, false, 5, 0, 1_000, 0x1122_3344)?;
+    only(out, true, 5, 0, 1_000, 0x1122_3344)?;
+    println!(out; "two headers from the wire of a real receiver:")?;
+    only(out, false, 0x09d9_589a, 2, 0x6ee, 0x3900_e136)?;
+    only(out, true, 0x09d9_5cc6, 0x42e, 0xbe0, 0x3900_e136)?;
+    println!(out; "the timers at the start:")?;
     if let TimersSet::Done(ts) = timers::new(0, 1_000_000_000, 5_000_000_000) {
-        let snd = ts.snd;
-        let ack = ts.full_ack;
-        let nak = ts.nak;
-        let exp = ts.exp;
-        period(b"SND ", snd);
-        period(b"ACK ", ack);
-        period(b"NAK ", nak);
-        period(b"EXP ", exp);
+        period(out, "SND", ts.snd)?;
+        period(out, "ACK", ts.full_ack)?;
+        period(out, "NAK", ts.nak)?;
+        period(out, "EXP", ts.exp)?;
     }
+    Ok(())
 }

@@ -7,6 +7,8 @@ use compare_entries::of_timer::compare_timer_new;
 use host_structs::pacings::FlatPacing;
 use phelgomrit::of_timers::phel_entry_timers_new;
 use rules_timers::{Timer, Timers};
+use std::io;
+use std::io::{ErrorKind, Read};
 use stored::Record;
 
 mod message_calls;
@@ -45,58 +47,66 @@ fn start() -> Bench {
 }
 
 // One call. Operations 1 to 5 are one timer's, to 12 those of all timers, to 14 pacing's; 15 splits, 16 makes a header.
-fn call(bench: Bench, r: Record) -> Bench {
+fn call(rt: &impl Print, bench: Bench, r: Record) -> io::Result<Bench> {
     let timer = bench.timer;
     let timers = bench.timers;
     let pacing = bench.pacing;
     let operation = r.operation;
     if operation <= 5 {
-        return Bench {
-            timer: timer_calls::call(timer, r),
+        return Ok(Bench {
+            timer: timer_calls::call(rt, timer, r)?,
             timers,
             pacing,
-        };
+        });
     }
     if operation <= 12 {
-        return Bench {
+        return Ok(Bench {
             timer,
-            timers: timers_calls::call(timers, r),
+            timers: timers_calls::call(rt, timers, r)?,
             pacing,
-        };
+        });
     }
     if operation <= 14 {
-        return Bench {
+        return Ok(Bench {
             timer,
             timers,
-            pacing: pacing_calls::call(pacing, r),
-        };
+            pacing: pacing_calls::call(rt, pacing, r)?,
+        });
     }
-    message_calls::call(r);
-    bench
+    message_calls::call(rt, r)?;
+    Ok(bench)
 }
 
-fn step(bench: Bench) -> Turn {
+// The next call, or none where fewer than 64 bytes are left.
+fn next(input: &mut impl Read) -> io::Result<Option<Record>> {
     let mut bytes = [0u8; 64];
-    let n = io::read_full(libc::STDIN_FILENO, &mut bytes);
-    if n < 64 {
-        return Turn { more: false, bench };
-    }
-    Turn {
-        more: true,
-        bench: call(bench, stored::read(&bytes)),
+    match input.read_exact(&mut bytes) {
+        Ok(()) => Ok(Some(stored::read(&bytes))),
+        Err(e) if e.kind() == ErrorKind::UnexpectedEof => Ok(None),
+        Err(e) => Err(e),
     }
 }
 
-// A proved loop has to end, and nothing says that the input does: so the turns are counted down.
-fn main() {
+fn step(rt: &impl Print, input: &mut impl Read, bench: Bench) -> io::Result<Turn> {
+    match next(input)? {
+        None => Ok(Turn { more: false, bench }),
+        Some(r) => Ok(Turn {
+            more: true,
+            bench: call(rt, bench, r)?,
+        }),
+    }
+}
+
+// A proved loop has to end, and nothing says that the input does: so the turns have a limit.
+fn main(rt: HostRuntime) -> io::Result<()> {
+    let mut input = rt.stdin();
     let mut bench = start();
-    let mut turns = u64::MAX;
-    while turns > 0 {
-        let t = step(bench);
+    for _ in 0..u64::MAX {
+        let t = step(&rt, &mut input, bench)?;
         if !t.more {
-            return;
+            return Ok(());
         }
         bench = t.bench;
-        turns -= 1;
     }
+    Ok(())
 }

@@ -2,41 +2,40 @@
 use crate::show;
 use compare_entries::of_message::{compare_split_packet, compare_split_packets};
 use phelgomrit::of_packet::phel_entry_header;
+use std::io;
 use stored::{Record, low};
 
-fn show_packet(len: usize, size: usize, k: usize) {
+fn show_packet(rt: &impl Print, len: usize, size: usize, k: usize) -> io::Result<()> {
     let a = compare_split_packet(len, size, k);
-    show::decimal(a.place as u64);
-    show::decimal(a.len as u64);
+    show::decimal(rt, a.place as u64)?;
+    show::decimal(rt, a.len as u64)
 }
 
 // Each packet's place and length.
-fn show_packets(len: usize, size: usize, n: usize) {
-    let mut k = 0;
-    while k < n {
-        show_packet(len, size, k);
-        k += 1;
+fn show_packets(rt: &impl Print, len: usize, size: usize, n: usize) -> io::Result<()> {
+    for k in 0..n {
+        show_packet(rt, len, size, k)?;
     }
+    Ok(())
 }
 
-fn split(size: usize, len: usize) {
+fn split(rt: &impl Print, size: usize, len: usize) -> io::Result<()> {
     let a = compare_split_packets(len, size);
-    show::text(b"split");
-    show::decimal(a.refusal as u64);
-    show::decimal(a.packets as u64);
-    show_packets(len, size, a.packets);
-    show::end();
+    show::text(rt, "split")?;
+    show::decimal(rt, a.refusal as u64)?;
+    show::decimal(rt, a.packets as u64)?;
+    show_packets(rt, len, size, a.packets)?;
+    show::end(rt)
 }
 
-fn show_bytes(bytes: [u8; 16]) {
-    let mut k = 0;
-    while k < 16 {
-        show::byte(bytes[k]);
-        k += 1;
+fn show_bytes(rt: &impl Print, bytes: [u8; 16]) -> io::Result<()> {
+    for b in bytes {
+        show::byte(rt, b)?;
     }
+    Ok(())
 }
 
-fn header(r: Record) {
+fn header(rt: &impl Print, r: Record) -> io::Result<()> {
     let mut out = [0u8; 16];
     phel_entry_header(
         &mut out,
@@ -47,15 +46,15 @@ fn header(r: Record) {
         low(r.e),
         low(r.f),
     );
-    show::text(b"header");
-    show_bytes(out);
-    show::end();
+    show::text(rt, "header")?;
+    show_bytes(rt, out)?;
+    show::end(rt)
 }
 
-pub(crate) fn call(r: Record) {
+pub(crate) fn call(rt: &impl Print, r: Record) -> io::Result<()> {
     if r.operation == 15 {
-        split(r.a as usize, r.b as usize);
+        split(rt, r.a as usize, r.b as usize)
     } else {
-        header(r);
+        header(rt, r)
     }
 }

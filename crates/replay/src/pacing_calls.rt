@@ -3,6 +3,7 @@ use crate::show;
 use compare_entries::of_pacing::{PacingAnswer, compare_pacing_new, compare_pacing_on_input};
 use host_structs::pacings::FlatPacing;
 use rules_pacing::RateEstimation;
+use std::io;
 use stored::{Record, low};
 
 fn answer(pacing: FlatPacing, r: Record) -> PacingAnswer {
@@ -13,10 +14,10 @@ fn answer(pacing: FlatPacing, r: Record) -> PacingAnswer {
     }
 }
 
-fn show_estimate(e: RateEstimation) {
-    show::decimal(e.count);
-    show::decimal(e.mean);
-    show::decimal(e.variance);
+fn show_estimate(rt: &impl Print, e: RateEstimation) -> io::Result<()> {
+    show::decimal(rt, e.count)?;
+    show::decimal(rt, e.mean)?;
+    show::decimal(rt, e.variance)
 }
 
 // A refused `new` keeps the pacing that there was.
@@ -29,18 +30,18 @@ fn kept(before: FlatPacing, r: Record, a: PacingAnswer) -> FlatPacing {
     }
 }
 
-pub(crate) fn call(pacing: FlatPacing, r: Record) -> FlatPacing {
+pub(crate) fn call(rt: &impl Print, pacing: FlatPacing, r: Record) -> io::Result<FlatPacing> {
     let a = answer(pacing, r);
     let after = kept(pacing, r, a);
     let packets = after.packets;
     let bytes = after.bytes;
-    show::text(b"pacing");
-    show::decimal(a.refusal as u64);
-    show::decimal(a.period);
-    show::decimal(after.begun as u64);
-    show::decimal(after.next);
-    show_estimate(packets);
-    show_estimate(bytes);
-    show::end();
-    after
+    show::text(rt, "pacing")?;
+    show::decimal(rt, a.refusal as u64)?;
+    show::decimal(rt, a.period)?;
+    show::decimal(rt, after.begun as u64)?;
+    show::decimal(rt, after.next)?;
+    show_estimate(rt, packets)?;
+    show_estimate(rt, bytes)?;
+    show::end(rt)?;
+    Ok(after)
 }

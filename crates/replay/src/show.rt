@@ -1,20 +1,19 @@
 // What a line is made of.
-use libc::STDOUT_FILENO;
+use std::io;
 
-pub(crate) fn text(bytes: &[u8]) {
-    io::write_all(STDOUT_FILENO, bytes);
+pub(crate) fn text(rt: &impl Print, word: &str) -> io::Result<()> {
+    print!(rt; "{word}")
 }
 
 // A number after a blank.
-pub(crate) fn decimal(n: u64) {
-    text(b" ");
-    io::print_decimal(STDOUT_FILENO, n);
+pub(crate) fn decimal(rt: &impl Print, n: u64) -> io::Result<()> {
+    print!(rt; " {n}")
 }
 
-pub(crate) fn byte(b: u8) {
-    decimal(b as u64);
+pub(crate) fn byte(rt: &impl Print, b: u8) -> io::Result<()> {
+    decimal(rt, b as u64)
 }
 
-pub(crate) fn end() {
-    text(b"\n");
+pub(crate) fn end(rt: &impl Print) -> io::Result<()> {
+    text(rt, "\n")
 }

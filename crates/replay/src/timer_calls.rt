@@ -6,6 +6,7 @@ use compare_entries::of_timer::{
 };
 use host_timers::NanosecondsAnswer;
 use rules_timers::Timer;
+use std::io;
 use stored::Record;
 
 fn answer(timer: Timer, r: Record) -> TimerAnswer {
@@ -19,14 +20,14 @@ fn answer(timer: Timer, r: Record) -> TimerAnswer {
 }
 
 // A timer's origin and period.
-pub(crate) fn show_timer(timer: Timer) {
-    show::decimal(timer.last);
-    show::decimal(timer.period);
+pub(crate) fn show_timer(rt: &impl Print, timer: Timer) -> io::Result<()> {
+    show::decimal(rt, timer.last)?;
+    show::decimal(rt, timer.period)
 }
 
-pub(crate) fn show_nanoseconds(a: NanosecondsAnswer) {
-    show::decimal(a.refusal as u64);
-    show::decimal(a.nanoseconds);
+pub(crate) fn show_nanoseconds(rt: &impl Print, a: NanosecondsAnswer) -> io::Result<()> {
+    show::decimal(rt, a.refusal as u64)?;
+    show::decimal(rt, a.nanoseconds)
 }
 
 // A refused `new` keeps the timer that there was.
@@ -39,20 +40,20 @@ fn kept(before: Timer, r: Record, a: TimerAnswer) -> Timer {
     }
 }
 
-pub(crate) fn call(timer: Timer, r: Record) -> Timer {
+pub(crate) fn call(rt: &impl Print, timer: Timer, r: Record) -> io::Result<Timer> {
     if r.operation == 5 {
-        show::text(b"timer next");
-        show_nanoseconds(compare_timer_next_instant(timer));
-        show_nanoseconds(compare_timer_period(timer));
-        show::end();
-        return timer;
+        show::text(rt, "timer next")?;
+        show_nanoseconds(rt, compare_timer_next_instant(timer))?;
+        show_nanoseconds(rt, compare_timer_period(timer))?;
+        show::end(rt)?;
+        return Ok(timer);
     }
     let a = answer(timer, r);
     let after = kept(timer, r, a);
-    show::text(b"timer");
-    show::decimal(a.refusal as u64);
-    show::decimal(a.periods as u64);
-    show_timer(after);
-    show::end();
-    after
+    show::text(rt, "timer")?;
+    show::decimal(rt, a.refusal as u64)?;
+    show::decimal(rt, a.periods as u64)?;
+    show_timer(rt, after)?;
+    show::end(rt)?;
+    Ok(after)
 }

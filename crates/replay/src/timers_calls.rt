@@ -10,6 +10,7 @@ use phelgomrit::of_timers::{
 };
 use rules_numbers::Rtt;
 use rules_timers::Timers;
+use std::io;
 use stored::{Record, low};
 
 fn check(timers: Timers, which: u64, now: u64) -> TimersAnswer {
@@ -61,42 +62,38 @@ fn kept(before: Timers, r: Record, a: TimersAnswer) -> Timers {
     }
 }
 
-fn show_timers(ts: Timers) {
+fn show_timers(rt: &impl Print, ts: Timers) -> io::Result<()> {
     let snd = ts.snd;
     let full_ack = ts.full_ack;
     let nak = ts.nak;
     let exp = ts.exp;
     let peer_idle = ts.peer_idle;
     let statistics = ts.statistics;
-    show::decimal(ts.exp_count as u64);
-    show_timer(snd);
-    show_timer(full_ack);
-    show_timer(nak);
-    show_timer(exp);
-    show_timer(peer_idle);
-    show_timer(statistics);
+    show::decimal(rt, ts.exp_count as u64)?;
+    show_timer(rt, snd)?;
+    show_timer(rt, full_ack)?;
+    show_timer(rt, nak)?;
+    show_timer(rt, exp)?;
+    show_timer(rt, peer_idle)?;
+    show_timer(rt, statistics)
 }
 
-pub(crate) fn call(timers: Timers, r: Record) -> Timers {
+pub(crate) fn call(rt: &impl Print, timers: Timers, r: Record) -> io::Result<Timers> {
     if r.operation == 8 {
-        show::text(b"timers wake");
-        show_nanoseconds(phel_entry_timers_next_timer(
-            timers,
-            r.a,
-            r.b == 1,
-            r.c == 1,
-            r.d,
-            low(r.e),
-        ));
-        show::end();
-        return timers;
+        show::text(rt, "timers wake")?;
+        show_nanoseconds(
+            rt,
+            phel_entry_timers_next_timer(timers, r.a, r.b == 1, r.c == 1, r.d, low(r.e)),
+        )?;
+        show::end(rt)?;
+        return Ok(timers);
     }
     let a = answer(timers, r);
     let after = kept(timers, r, a);
-    show::text(b"timers");
-    show::decimal(a.refusal as u64);
-    show::decimal(a.periods as u64);
-    show_timers(after);
-    show::end();
-    after
+    show::text(rt, "timers")?;
+    show::decimal(rt, a.refusal as u64)?;
+    show::decimal(rt, a.periods as u64)?;
+    show_timers(rt, after)?;
+    show::end(rt)?;
+    Ok(after)
 }

@@ -3,6 +3,7 @@ ghost use Rattle.std.specs.Prelude.{◌≡◌, length};
 
 use crate::show;
 use sender::{Answer, Messaged, NewPeriod, Sender};
+use std::io;
 use stored::{Record, at_most, low};
 
 const LENGTH_MOST: usize = 512;
@@ -15,10 +16,8 @@ fn seeded(seed: u32, i: usize) -> u8 {
 }
 
 fn fill(bytes: &mut [u8], seed: u32) {
-    let mut i = 0;
-    while i < bytes.len() {
-        bytes[i] = seeded(seed, i);
-        i += 1;
+    for (i, byte) in bytes.iter_mut().enumerate() {
+        *byte = seeded(seed, i);
     }
 }
 
@@ -31,44 +30,45 @@ fn first(bytes: &[u8], n: usize) -> &[u8] {
     &bytes[start..n]
 }
 
-fn show_period(period: NewPeriod) {
+fn show_period(rt: &impl Print, period: NewPeriod) -> io::Result<()> {
     match period {
-        NewPeriod::None => show::text(b" period -"),
-        NewPeriod::Set(p) => show::decimal(b" period", p),
+        NewPeriod::None => show::text(rt, " period -"),
+        NewPeriod::Set(p) => show::decimal(rt, " period", p),
     }
 }
 
-fn show_answer(a: Answer) {
+fn show_answer(rt: &impl Print, a: Answer) -> io::Result<()> {
     let period = a.period;
-    show::decimal(b"made", a.made as u64);
-    show::decimal(b" removed", a.removed as u64);
-    show::decimal(b" bytes", a.bytes);
-    show_period(period);
+    show::decimal(rt, "made", a.made as u64)?;
+    show::decimal(rt, " removed", a.removed as u64)?;
+    show::decimal(rt, " bytes", a.bytes)?;
+    show_period(rt, period)
 }
 
-fn after(s: Sender, m: Messaged) -> Sender {
+fn after(rt: &impl Print, s: Sender, m: Messaged) -> io::Result<Sender> {
     match m {
         Messaged::Refused(why) => {
-            show::refused(why);
-            s
+            show::refused(rt, why)?;
+            Ok(s)
         }
         Messaged::Done(t, a) => {
-            show_answer(a);
-            t
+            show_answer(rt, a)?;
+            Ok(t)
         }
     }
 }
 
 fn send(
+    rt: &impl Print,
     s: Sender,
     r: Record,
     payload: &[u8],
     ring: &mut [u64],
     lost: &mut [u32],
     store: &mut [u8],
-) -> Sender {
+) -> io::Result<Sender> {
     let m = s.message(r.a, r.b, payload, ring, lost, store);
-    after(s, m)
+    after(rt, s, m)
 }
 
 // One byte more than a message may have. The `ensures` gives only the length, which lending the array as a slice needs.
@@ -79,17 +79,18 @@ fn too_long() -> [u8; 1_048_577]
 }
 
 pub(crate) fn call(
+    rt: &impl Print,
     s: Sender,
     r: Record,
     ring: &mut [u64],
     lost: &mut [u32],
     store: &mut [u8],
-) -> Sender {
+) -> io::Result<Sender> {
     if r.c == TOO_LONG {
-        return send(s, r, &too_long(), ring, lost, store);
+        return send(rt, s, r, &too_long(), ring, lost, store);
     }
     let mut bytes = [0u8; 512];
     fill(&mut bytes, low(r.d));
     let payload = first(&bytes, at_most(r.c, LENGTH_MOST));
-    send(s, r, payload, ring, lost, store)
+    send(rt, s, r, payload, ring, lost, store)
 }

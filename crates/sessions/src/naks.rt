@@ -4,6 +4,7 @@ ghost use Rattle.std.specs.Prelude.{◌≤◌};
 use crate::show;
 use nak::Reported;
 use sender::Sender;
+use std::io;
 use stored::{Record, at_most, high, low};
 
 const WORDS_MOST: usize = 10;
@@ -25,34 +26,33 @@ fn words(r: Record) -> [u32; 10] {
     ]
 }
 
-fn show_run(kind: u32, first: u32, end: u32) {
+fn show_run(rt: &impl Print, kind: u32, first: u32, end: u32) -> io::Result<()> {
     match kind {
-        1 => show::decimal(b"\n  added", first as u64),
-        2 => show::decimal(b"\n  ignored", first as u64),
-        _ => show::decimal(b"\n  dropped", first as u64),
+        1 => show::decimal(rt, "\n  added", first as u64)?,
+        2 => show::decimal(rt, "\n  ignored", first as u64)?,
+        _ => show::decimal(rt, "\n  dropped", first as u64)?,
     }
-    show::decimal(b"", end as u64);
+    show::decimal(rt, "", end as u64)
 }
 
 // The run whose three words stand at `at`.
-fn show_at(out: &[u32], at: usize) {
+fn show_at(rt: &impl Print, out: &[u32], at: usize) -> io::Result<()> {
     if out.len() < 3 {
-        return;
+        return Ok(());
     }
     if out.len() - 3 < at {
-        return;
+        return Ok(());
     }
-    show_run(out[at], out[at + 1], out[at + 2]);
+    show_run(rt, out[at], out[at + 1], out[at + 2])
 }
 
-fn show_runs(out: &[u32], n: usize)
+fn show_runs(rt: &impl Print, out: &[u32], n: usize) -> io::Result<()>
     requires { n ≤ 30 }
 {
-    let mut k = 0;
-    while k < n {
-        show_at(out, k * 3);
-        k += 1;
+    for k in 0..n {
+        show_at(rt, out, k * 3)?;
     }
+    Ok(())
 }
 
 // The first words, all where there are no more.
@@ -64,36 +64,61 @@ fn first(words: &[u32], n: usize) -> &[u32] {
     &words[start..n]
 }
 
-fn report(s: Sender, words: &[u32], ring: &[u64], lost: &mut [u32], out: &mut [u32]) -> Sender {
+fn report(
+    rt: &impl Print,
+    s: Sender,
+    words: &[u32],
+    ring: &[u64],
+    lost: &mut [u32],
+    out: &mut [u32],
+) -> io::Result<Sender> {
     match nak::nak(s, words, ring, lost, out) {
         Reported::Refused(why) => {
-            show::refused(why);
-            s
+            show::refused(rt, why)?;
+            Ok(s)
         }
         Reported::Done(t, runs) => {
-            show::decimal(b"runs", runs as u64);
-            show_runs(out, at_most(runs as u64, RUNS_MOST));
-            t
+            show::decimal(rt, "runs", runs as u64)?;
+            show_runs(rt, out, at_most(runs as u64, RUNS_MOST))?;
+            Ok(t)
         }
     }
 }
 
-fn tight(s: Sender, words: &[u32], ring: &[u64], lost: &mut [u32]) -> Sender {
+fn tight(
+    rt: &impl Print,
+    s: Sender,
+    words: &[u32],
+    ring: &[u64],
+    lost: &mut [u32],
+) -> io::Result<Sender> {
     let mut out = [0u32; 6];
-    report(s, words, ring, lost, &mut out)
+    report(rt, s, words, ring, lost, &mut out)
 }
 
-fn ample(s: Sender, words: &[u32], ring: &[u64], lost: &mut [u32]) -> Sender {
+fn ample(
+    rt: &impl Print,
+    s: Sender,
+    words: &[u32],
+    ring: &[u64],
+    lost: &mut [u32],
+) -> io::Result<Sender> {
     let mut out = [0u32; 90];
-    report(s, words, ring, lost, &mut out)
+    report(rt, s, words, ring, lost, &mut out)
 }
 
 // There is room for 30 runs, or for two.
-pub(crate) fn call(s: Sender, r: Record, ring: &[u64], lost: &mut [u32]) -> Sender {
+pub(crate) fn call(
+    rt: &impl Print,
+    s: Sender,
+    r: Record,
+    ring: &[u64],
+    lost: &mut [u32],
+) -> io::Result<Sender> {
     let all = words(r);
     let given = first(&all, at_most(r.a, WORDS_MOST));
     if r.g == 1 {
-        return tight(s, given, ring, lost);
+        return tight(rt, s, given, ring, lost);
     }
-    ample(s, given, ring, lost)
+    ample(rt, s, given, ring, lost)
 }

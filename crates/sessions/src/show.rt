@@ -1,26 +1,20 @@
 // What the answers are made of: docs/SCRIPTS.md, "The sender".
 ghost use Rattle.std.specs.Prelude.{◌<◌};
 
-use libc::STDOUT_FILENO;
 use rules_refusals::Refusal;
+use std::io;
 
-pub(crate) fn text(bytes: &[u8]) {
-    io::write_all(STDOUT_FILENO, bytes);
+pub(crate) fn text(rt: &impl Print, word: &str) -> io::Result<()> {
+    print!(rt; "{word}")
 }
 
 // A number after a word and a blank.
-pub(crate) fn decimal(word: &[u8], n: u64) {
-    text(word);
-    text(b" ");
-    io::print_decimal(STDOUT_FILENO, n);
+pub(crate) fn decimal(rt: &impl Print, word: &str, n: u64) -> io::Result<()> {
+    print!(rt; "{word} {n}")
 }
 
-pub(crate) fn flag(word: &[u8], on: bool) {
-    if on {
-        decimal(word, 1);
-    } else {
-        decimal(word, 0);
-    }
+pub(crate) fn flag(rt: &impl Print, word: &str, on: bool) -> io::Result<()> {
+    decimal(rt, word, u64::from(on))
 }
 
 fn glyph(d: u8) -> u8
@@ -29,65 +23,63 @@ fn glyph(d: u8) -> u8
     if d < 10 { 48 + d } else { 55 + d }
 }
 
-fn byte(b: u8) {
-    let digits = [glyph(b / 16), glyph(b % 16)];
-    text(&digits);
+fn byte(rt: &impl Print, b: u8) -> io::Result<()> {
+    rt.write_all(&[glyph(b / 16), glyph(b % 16)])
 }
 
-fn hex(bytes: &[u8]) {
-    let mut k = 0;
-    while k < bytes.len() {
-        byte(bytes[k]);
-        k += 1;
+fn hex(rt: &impl Print, bytes: &[u8]) -> io::Result<()> {
+    for b in bytes {
+        byte(rt, *b)?;
     }
+    Ok(())
 }
 
 // The `n` bytes from `at` on in hexadecimal; nothing where they are not all there.
-pub(crate) fn part(bytes: &[u8], at: usize, n: usize) {
+pub(crate) fn part(rt: &impl Print, bytes: &[u8], at: usize, n: usize) -> io::Result<()> {
     if bytes.len() < at {
-        return;
+        return Ok(());
     }
     if bytes.len() - at < n {
-        return;
+        return Ok(());
     }
     let end = at + n;
-    hex(&bytes[at..end]);
+    hex(rt, &bytes[at..end])
 }
 
-fn name(r: Refusal) {
+fn name(rt: &impl Print, r: Refusal) -> io::Result<()> {
     match r {
-        Refusal::BadSetting => text(b" BadSetting"),
-        Refusal::BadStore => text(b" BadStore"),
-        Refusal::BadState => text(b" BadState"),
-        Refusal::BadTime => text(b" BadTime"),
-        Refusal::TooLong => text(b" TooLong"),
-        Refusal::CountFull => text(b" CountFull"),
-        Refusal::BadNumber => text(b" BadNumber"),
-        Refusal::BadRtt => text(b" BadRtt"),
-        Refusal::Empty => text(b" Empty"),
+        Refusal::BadSetting => text(rt, " BadSetting"),
+        Refusal::BadStore => text(rt, " BadStore"),
+        Refusal::BadState => text(rt, " BadState"),
+        Refusal::BadTime => text(rt, " BadTime"),
+        Refusal::TooLong => text(rt, " TooLong"),
+        Refusal::CountFull => text(rt, " CountFull"),
+        Refusal::BadNumber => text(rt, " BadNumber"),
+        Refusal::BadRtt => text(rt, " BadRtt"),
+        Refusal::Empty => text(rt, " Empty"),
         Refusal::InvalidAck {
             ack_number,
             first,
             next,
         } => {
-            decimal(b" InvalidAck ack", ack_number.0 as u64);
-            decimal(b" first", first.0 as u64);
-            decimal(b" next", next.0 as u64);
+            decimal(rt, " InvalidAck ack", ack_number.0 as u64)?;
+            decimal(rt, " first", first.0 as u64)?;
+            decimal(rt, " next", next.0 as u64)
         }
         Refusal::StaleFullAck {
             received_full_ack,
             next_full_ack,
         } => {
-            decimal(b" StaleFullAck full", received_full_ack as u64);
-            decimal(b" expected", next_full_ack);
+            decimal(rt, " StaleFullAck full", received_full_ack as u64)?;
+            decimal(rt, " expected", next_full_ack)
         }
-        Refusal::BadNak { index } => decimal(b" BadNak index", index as u64),
-        Refusal::NoRoom => text(b" NoRoom"),
-        Refusal::NotHeld => text(b" NotHeld"),
+        Refusal::BadNak { index } => decimal(rt, " BadNak index", index as u64),
+        Refusal::NoRoom => text(rt, " NoRoom"),
+        Refusal::NotHeld => text(rt, " NotHeld"),
     }
 }
 
-pub(crate) fn refused(r: Refusal) {
-    decimal(b"refused", refusals::number(r) as u64);
-    name(r);
+pub(crate) fn refused(rt: &impl Print, r: Refusal) -> io::Result<()> {
+    decimal(rt, "refused", refusals::number(r) as u64)?;
+    name(rt, r)
 }

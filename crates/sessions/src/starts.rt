@@ -4,6 +4,7 @@ use buffer::{SendBuffer, Settings};
 use rules_numbers::MsgNumber;
 use rules_pacing::LiveBandwidthMode;
 use sender::{Made, Sender};
+use std::io;
 use stored::{Record, high, low};
 
 fn settings(r: Record) -> Settings {
@@ -30,15 +31,15 @@ fn mode(which: u32, rate: u64, overhead: u64) -> LiveBandwidthMode {
     }
 }
 
-pub(crate) fn new(r: Record) -> Desk {
+pub(crate) fn new(rt: &impl Print, r: Record) -> io::Result<Desk> {
     match Sender::new(settings(r), mode(high(r.d), r.e, r.f)) {
         Made::Refused(why) => {
-            show::refused(why);
-            Desk::Nothing
+            show::refused(rt, why)?;
+            Ok(Desk::Nothing)
         }
         Made::Ready(s) => {
-            show::text(b"done");
-            Desk::At(s)
+            show::text(rt, "done")?;
+            Ok(Desk::At(s))
         }
     }
 }
@@ -62,25 +63,25 @@ fn with(b: SendBuffer, message: MsgNumber, bytes: u64) -> SendBuffer {
     }
 }
 
-fn holding(s: Sender, buffer: SendBuffer) -> Sender {
+fn holding(rt: &impl Print, s: Sender, buffer: SendBuffer) -> io::Result<Sender> {
     let settings = s.settings;
     let pacing = s.pacing;
-    show::text(b"done");
-    Sender {
+    show::text(rt, "done")?;
+    Ok(Sender {
         settings,
         buffer,
         pacing,
-    }
+    })
 }
 
 // No call of the product: the script sets the message counter, so that its wrap is reached, or one that is out of its range.
-pub(crate) fn preset_message(s: Sender, number: u32) -> Sender {
+pub(crate) fn preset_message(rt: &impl Print, s: Sender, number: u32) -> io::Result<Sender> {
     let b = s.buffer;
-    holding(s, with(b, MsgNumber(number), b.bytes))
+    holding(rt, s, with(b, MsgNumber(number), b.bytes))
 }
 
 // Nor this: it sets the byte count, so that its end is reached.
-pub(crate) fn preset_bytes(s: Sender, bytes: u64) -> Sender {
+pub(crate) fn preset_bytes(rt: &impl Print, s: Sender, bytes: u64) -> io::Result<Sender> {
     let b = s.buffer;
-    holding(s, with(b, b.message, bytes))
+    holding(rt, s, with(b, b.message, bytes))
 }

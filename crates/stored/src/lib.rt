@@ -5,7 +5,7 @@
 ghost use Rattle.std.specs.Prelude.{◌≡◌, ◌≤◌, ◌%◌, ◌/◌, ◌^◌, min};
 ghost use Rattle.stored.specs.Stored.{number, call};
 
-#[derive(Drop)]
+#[derive(Clone, Copy)]
 pub struct Record {
     pub operation: u64,
     pub a: u64,
