@@ -7,7 +7,7 @@ ghost use Rattle.rules.specs.Records.{encode};
 ghost use Rattle.action_records.specs.Record.{Numbered, action_of, plain};
 
 // What a record tells the host to do.
-#[derive(Drop)]
+#[derive(Clone, Copy)]
 pub enum Kind {
     Send,
     RetransmitRto,
@@ -19,7 +19,7 @@ pub enum Kind {
 
 // One record, its fields in document 01's order; `word` is the message, the exclusive drop end or the unacknowledged count. Fields that its kind
 // does not use are 0.
-#[derive(Drop)]
+#[derive(Clone, Copy)]
 pub struct Record {
     pub kind: Kind,
     pub flags: u8,

@@ -17,7 +17,7 @@ use rules_numbers::{MsgNumber, Rtt, SeqNumber};
 
 // The seven settings of a sender, in document 01's order.
 #[repr(C)]
-#[derive(Drop)]
+#[derive(Clone, Copy)]
 pub struct Settings {
     pub first: u32,
     pub size: u32,
@@ -29,7 +29,7 @@ pub struct Settings {
 }
 
 // The flushed packet, whose payload is held until the next accepted message.
-#[derive(Drop)]
+#[derive(Clone, Copy)]
 pub enum Flushed {
     Nothing,
     Held(SeqNumber, usize, usize),
@@ -37,7 +37,7 @@ pub enum Flushed {
 
 // The kept numbers: where the packets lie, the front's number, how many packets from the front on are sent, the length
 // of the loss list, the byte count, and the fields that don't depend on the packets.
-#[derive(Drop)]
+#[derive(Clone, Copy)]
 pub struct SendBuffer {
     pub ring: Ring,
     pub front: SeqNumber,

@@ -13,21 +13,21 @@ use rules_numbers::{Rtt, SeqNumber};
 use rules_refusals::{Refusal, Verdict};
 
 // The full number of an ACK, if it has one.
-#[derive(Drop)]
+#[derive(Clone, Copy)]
 pub enum FullAck {
     None,
     Number(u32),
 }
 
 // The round-trip time of an ACK, if it has one.
-#[derive(Drop)]
+#[derive(Clone, Copy)]
 pub enum AckRtt {
     None,
     Measured(Rtt),
 }
 
 // What an accepted ACK did: packets acknowledged, how many of them were on the loss list, and the ACK's full number.
-#[derive(Drop)]
+#[derive(Clone, Copy)]
 pub struct AckAction {
     pub received: u32,
     pub recovered: u32,
@@ -35,7 +35,7 @@ pub struct AckAction {
 }
 
 // The books afterwards, with what the ACK did or why it is refused.
-#[derive(Drop)]
+#[derive(Clone, Copy)]
 pub enum Acked {
     Done(SendBuffer, AckAction),
     Refused(SendBuffer, Refusal),

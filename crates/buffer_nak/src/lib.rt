@@ -10,7 +10,7 @@ use buffer::SendBuffer;
 use rules_numbers::SeqNumber;
 
 // The books afterwards, and how many runs the answer has.
-#[derive(Drop)]
+#[derive(Clone, Copy)]
 pub struct Reported {
     pub buffer: SendBuffer,
     pub runs: usize,

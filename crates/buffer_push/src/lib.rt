@@ -18,7 +18,7 @@ use rules_numbers::MsgNumber;
 use rules_packets::Piece;
 
 // The books after a message, and what the call answers: packets made, packets removed, wire bytes removed.
-#[derive(Drop)]
+#[derive(Clone, Copy)]
 pub struct Pushed {
     pub buffer: SendBuffer,
     pub made: usize,

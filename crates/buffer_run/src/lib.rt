@@ -12,7 +12,7 @@ use run_choice::Rule;
 use run_effects::{Written, leaving, resend, unsent, waits};
 
 // The books after a run, how many records it wrote, and the budget left.
-#[derive(Drop)]
+#[derive(Clone, Copy)]
 pub struct Ran {
     pub buffer: SendBuffer,
     pub records: usize,
@@ -20,7 +20,7 @@ pub struct Ran {
 }
 
 // What is left after a turn, and whether it ends the run.
-#[derive(Drop)]
+#[derive(Clone, Copy)]
 struct Step {
     written: Written,
     ends: bool,

@@ -7,7 +7,7 @@ use rules_packets::{Cutting, Split};
 
 // How many packets a message becomes.
 #[repr(C)]
-#[derive(Drop)]
+#[derive(Clone, Copy)]
 pub struct PacketsAnswer {
     pub refusal: u32,
     pub packets: usize,
@@ -16,7 +16,7 @@ pub struct PacketsAnswer {
 // One packet: its place bits, where its payload starts in the message, and its length. `found` is false if the message
 // has fewer packets.
 #[repr(C)]
-#[derive(Drop)]
+#[derive(Clone, Copy)]
 pub struct PieceAnswer {
     pub refusal: u32,
     pub found: bool,

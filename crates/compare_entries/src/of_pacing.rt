@@ -7,7 +7,7 @@ use rules_pacing::{Made, Paced, RateEstimation, SenderCongestionControl};
 
 // Pacing after the call, and the new period in microseconds; 0 means none, since a period is at least 1.
 #[repr(C)]
-#[derive(Drop)]
+#[derive(Clone, Copy)]
 pub struct PacingAnswer {
     pub refusal: u32,
     pub period: u64,

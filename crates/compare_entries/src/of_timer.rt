@@ -9,7 +9,7 @@ use rules_timers::{Timer, TimerChecked, TimerSet};
 
 // The answer of a call that makes, sets or checks a timer: the timer after it, and the periods elapsed, 0 for none.
 #[repr(C)]
-#[derive(Drop)]
+#[derive(Clone, Copy)]
 pub struct TimerAnswer {
     pub refusal: u32,
     pub periods: u32,

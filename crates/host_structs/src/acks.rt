@@ -11,7 +11,7 @@ use sender::{Acknowledged, Sender};
 
 // Packets acknowledged, how many of them were on the loss list, and the ACK's full number if `full` is true.
 #[repr(C)]
-#[derive(Drop)]
+#[derive(Clone, Copy)]
 pub struct AckAnswer {
     pub refusal: Refused,
     pub received: u32,

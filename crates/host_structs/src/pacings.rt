@@ -8,7 +8,7 @@ use rules_pacing::{LiveBandwidthMode, Next, RateEstimation, SenderCongestionCont
 // What pacing keeps. Modes: 0 input, 1 estimated, 2 maximum, 3 unlimited; fields that a mode doesn't use are 0. `begun`
 // is 1 from the first input on; before it, `next` is 0.
 #[repr(C)]
-#[derive(Drop)]
+#[derive(Clone, Copy)]
 pub struct FlatPacing {
     pub mode: u32,
     pub begun: u32,

@@ -8,7 +8,7 @@ use reports::Told;
 
 // Where a payload starts in the store, and its length.
 #[repr(C)]
-#[derive(Drop)]
+#[derive(Clone, Copy)]
 pub struct PayloadAnswer {
     pub refusal: Refused,
     pub place: usize,
@@ -17,7 +17,7 @@ pub struct PayloadAnswer {
 
 // The reports: flushed, has packets to send, buffered packets, bytes, and time in microseconds.
 #[repr(C)]
-#[derive(Drop)]
+#[derive(Clone, Copy)]
 pub struct ReportsAnswer {
     pub refusal: Refused,
     pub is_flushed: bool,

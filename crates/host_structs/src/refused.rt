@@ -8,7 +8,7 @@ use rules_refusals::Refusal;
 // the ACK's number, the front and next unsent, for 11 the full number and the expected one, for 12 the word's index.
 // All other fields are 0.
 #[repr(C)]
-#[derive(Drop)]
+#[derive(Clone, Copy)]
 pub struct Refused {
     pub number: u32,
     pub first: u64,

@@ -12,7 +12,7 @@ use sender::{Messaged, NewPeriod};
 // Packets made, packets removed, wire bytes removed, and the new period in microseconds; 0 means none, since a period
 // is at least 1.
 #[repr(C)]
-#[derive(Drop)]
+#[derive(Clone, Copy)]
 pub struct MessageAnswer {
     pub refusal: Refused,
     pub made: usize,
@@ -24,7 +24,7 @@ pub struct MessageAnswer {
 
 // How many runs the lent list holds.
 #[repr(C)]
-#[derive(Drop)]
+#[derive(Clone, Copy)]
 pub struct NakAnswer {
     pub refusal: Refused,
     pub runs: usize,
@@ -33,7 +33,7 @@ pub struct NakAnswer {
 
 // How many records were written, and the budget left.
 #[repr(C)]
-#[derive(Drop)]
+#[derive(Clone, Copy)]
 pub struct RunAnswer {
     pub refusal: Refused,
     pub records: usize,

@@ -11,7 +11,7 @@ use sender::Sender;
 
 // The flushed packet whose payload is held: `held` is 1; if none is, every field is 0.
 #[repr(C)]
-#[derive(Drop)]
+#[derive(Clone, Copy)]
 pub struct HeldPacket {
     pub held: u32,
     pub number: u32,
@@ -21,7 +21,7 @@ pub struct HeldPacket {
 
 // What the send buffer keeps besides the lent areas.
 #[repr(C)]
-#[derive(Drop)]
+#[derive(Clone, Copy)]
 pub struct FlatBooks {
     pub ring: Ring,
     pub front: u32,
@@ -36,7 +36,7 @@ pub struct FlatBooks {
 
 // Everything that a sender keeps besides the lent areas.
 #[repr(C)]
-#[derive(Drop)]
+#[derive(Clone, Copy)]
 pub struct FlatSender {
     pub settings: Settings,
     pub books: FlatBooks,

@@ -13,7 +13,7 @@ use sender::Made;
 
 // The new sender; all zeros if the call is refused.
 #[repr(C)]
-#[derive(Drop)]
+#[derive(Clone, Copy)]
 pub struct NewAnswer {
     pub refusal: Refused,
     pub sender: FlatSender,

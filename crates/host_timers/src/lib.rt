@@ -9,7 +9,7 @@ use rules_timers::{Elapsed, Nanoseconds, NextMessage, Timer, Timers, TimersCheck
 
 // The answer of a call that makes, sets or checks: the timers after it, and the periods elapsed, 0 for none.
 #[repr(C)]
-#[derive(Drop)]
+#[derive(Clone, Copy)]
 pub struct TimersAnswer {
     pub refusal: u32,
     pub periods: u32,
@@ -18,7 +18,7 @@ pub struct TimersAnswer {
 
 // Nanoseconds read from the timers.
 #[repr(C)]
-#[derive(Drop)]
+#[derive(Clone, Copy)]
 pub struct NanosecondsAnswer {
     pub refusal: u32,
     pub nanoseconds: u64,

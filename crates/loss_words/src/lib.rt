@@ -10,7 +10,7 @@ use rules_numbers::SeqNumber;
 pub mod runs;
 
 // What is at a place of the report: one number, a range with its inclusive last, a malformed item, or the end.
-#[derive(Drop)]
+#[derive(Clone, Copy)]
 pub enum Step {
     One(u32),
     Range(u32, u32),
@@ -19,7 +19,7 @@ pub enum Step {
 }
 
 // A report: how many items it has, or the index of the first word of its first bad item, for refusal 12, BadNak.
-#[derive(Drop)]
+#[derive(Clone, Copy)]
 pub enum Report {
     Items(usize),
     BadNak(u32),

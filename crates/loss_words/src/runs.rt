@@ -16,7 +16,7 @@ pub const IGNORED: u32 = 2;
 pub const DROPPED: u32 = 3;
 
 // The kind of a number, and how many numbers from it on have that kind.
-#[derive(Drop)]
+#[derive(Clone, Copy)]
 pub struct Loss {
     pub kind: u32,
     pub count: u32,

@@ -13,7 +13,7 @@ use sender::{Sender, judging};
 
 // The answer of `nak`: the sender from then on, and how many runs the lent list holds. If it is refused, the caller's
 // sender is unchanged.
-#[derive(Drop)]
+#[derive(Clone, Copy)]
 pub enum Reported {
     Done(Sender, usize),
     Refused(Refusal),

@@ -12,14 +12,14 @@ use rules_refusals::{Refusal, Verdict};
 use sender::{Sender, judging};
 
 // Where a payload lies in the store, and its length.
-#[derive(Drop)]
+#[derive(Clone, Copy)]
 pub struct Lies {
     pub place: usize,
     pub len: usize,
 }
 
 // The answer of `payload`.
-#[derive(Drop)]
+#[derive(Clone, Copy)]
 pub enum Found {
     Held(Lies),
     Refused(Refusal),

@@ -10,7 +10,7 @@ use sender::{Sender, judging};
 
 // Whether nothing is buffered and the loss list is empty; whether a packet is unsent or a number is on the loss list;
 // how many packets are buffered; the byte count; and the back's time less the front's.
-#[derive(Drop)]
+#[derive(Clone, Copy)]
 pub struct BufferReports {
     pub is_flushed: bool,
     pub has_packets_to_send: bool,
@@ -20,7 +20,7 @@ pub struct BufferReports {
 }
 
 // The answer of `reports`.
-#[derive(Drop)]
+#[derive(Clone, Copy)]
 pub enum Told {
     Known(BufferReports),
     Refused(Refusal),

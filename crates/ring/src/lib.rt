@@ -11,7 +11,7 @@ ghost use Rattle.ring.specs.Ring.Laws.{Placed};
 const WIDTH: usize = 6;
 
 // One buffered packet, in the words that it is kept in.
-#[derive(Drop)]
+#[derive(Clone, Copy)]
 pub struct Entry {
     pub time: u64,
     pub message: u64,
@@ -23,7 +23,7 @@ pub struct Entry {
 
 // Where the packets lie: how many slots there are, the slot of the front packet, and how many packets there are.
 #[repr(C)]
-#[derive(Drop)]
+#[derive(Clone, Copy)]
 pub struct Ring {
     pub cap: usize,
     pub slot: usize,

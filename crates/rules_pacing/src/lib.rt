@@ -5,7 +5,7 @@ use rules_refusals::Refusal;
 
 // The count since the last estimate (the Rust's `total` less `last`), and that estimate, per second.
 #[repr(C)]
-#[derive(Drop)]
+#[derive(Clone, Copy)]
 pub struct RateEstimation {
     pub count: u64,
     pub mean: u64,
@@ -13,7 +13,7 @@ pub struct RateEstimation {
 }
 
 // How fast the sender may go: rates in bytes per second, overhead in percent.
-#[derive(Drop)]
+#[derive(Clone, Copy)]
 pub enum LiveBandwidthMode {
     Input { rate: u64, overhead: u64 },
     Estimated { expected: u64, overhead: u64 },
@@ -22,14 +22,14 @@ pub enum LiveBandwidthMode {
 }
 
 // When the next estimate is due, in microseconds; unset until the first input.
-#[derive(Drop)]
+#[derive(Clone, Copy)]
 pub enum Next {
     Unset,
     At(u64),
 }
 
 // Everything that pacing keeps.
-#[derive(Drop)]
+#[derive(Clone, Copy)]
 pub struct SenderCongestionControl {
     pub next: Next,
     pub packets: RateEstimation,
@@ -38,14 +38,14 @@ pub struct SenderCongestionControl {
 }
 
 // The answer of `new`.
-#[derive(Drop)]
+#[derive(Clone, Copy)]
 pub enum Made {
     Control(SenderCongestionControl),
     Refused(Refusal),
 }
 
 // The answer of `on_input`: no new period, or one in microseconds; both with the pacing to keep from then on.
-#[derive(Drop)]
+#[derive(Clone, Copy)]
 pub enum Paced {
     Silent(SenderCongestionControl),
     Period(u64, SenderCongestionControl),

@@ -4,7 +4,7 @@
 use rules_refusals::Refusal;
 
 // A packet's place in its message.
-#[derive(Drop)]
+#[derive(Clone, Copy)]
 pub enum Place {
     First,
     Middle,
@@ -13,7 +13,7 @@ pub enum Place {
 }
 
 // One packet of a message: its place, and which of the message's bytes are its payload.
-#[derive(Drop)]
+#[derive(Clone, Copy)]
 pub struct Piece {
     pub place: Place,
     pub start: usize,
@@ -21,14 +21,14 @@ pub struct Piece {
 }
 
 // How many packets a message becomes.
-#[derive(Drop)]
+#[derive(Clone, Copy)]
 pub enum Split {
     Packets(usize),
     Refused(Refusal),
 }
 
 // A packet of a message, or none where the message has fewer.
-#[derive(Drop)]
+#[derive(Clone, Copy)]
 pub enum Cutting {
     Done(Piece),
     Beyond,

@@ -4,7 +4,7 @@
 use rules_numbers::SeqNumber;
 
 // The refusals in the order of their numbers, with only the values that document 01's table names.
-#[derive(Drop)]
+#[derive(Clone, Copy)]
 pub enum Refusal {
     BadSetting,
     BadStore,
@@ -32,7 +32,7 @@ pub enum Refusal {
 }
 
 // The verdict of a call's tests.
-#[derive(Drop)]
+#[derive(Clone, Copy)]
 pub enum Verdict {
     Accepted,
     Refused(Refusal),

@@ -1,7 +1,7 @@
 -- After a report the loss list holds what it held and, each once, the reported numbers that are buffered and sent. The
 -- list ascends, so each is there once (`enter_all-ascends`); the numbers of the Added runs enter, and the runs name
 -- exactly the numbers reported.
-use mathlib.Core.Path.{◌∙◌, ◌≡◌, ap, refl, sym}
+use mathlib.Core.Path.{◌∙◌, ◌≡◌, ap, refl, subst, sym}
 use mathlib.Core.Bool.{Bool, false, true}
 use mathlib.Core.List.{List, [], ◌++◌, ◌∷◌}
 use mathlib.Core.Logic.{◌↔◌, ◌⊎◌, inl, inr}
@@ -153,7 +153,7 @@ up-on m zero i l h = absurd (omega arith)
 up-on m (suc n) zero l h = inl (omega arith)
 up-on m (suc n) (suc i) l h =
     let e : wire (m + suc i) ≡ wire (wire (suc m) + i) = omega arith in
-    inr (rw e (up-on (wire (suc m)) n i (wire-below (suc m)) (omega arith)))
+    inr (subst (λ (y : ℕ). On y (up_from (wire (suc m)) n)) (sym e) (up-on (wire (suc m)) n i (wire-below (suc m)) (omega arith)))
 
 up_is : (x m n : ℕ) → m < 2 ^ 31 → On x (up_from m n) → (i : ℕ) × (i < n) × (x ≡ wire (m + i))
 unfolding up_from

@@ -11,7 +11,7 @@ use sender::{Sender, judging};
 
 // The answer of `run`: the sender afterwards, how many records were written, and the budget left. If it is refused, the
 // caller's sender is unchanged.
-#[derive(Drop)]
+#[derive(Clone, Copy)]
 pub enum Ran {
     Done(Sender, usize, u32),
     Refused(Refusal),

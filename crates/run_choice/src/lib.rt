@@ -14,7 +14,7 @@ use buffer::{SendBuffer, Settings};
 use ring::Entry;
 
 // The first of rules 2 to 7 that applies; a packet is given by its index from the front.
-#[derive(Drop)]
+#[derive(Clone, Copy)]
 pub enum Rule {
     Loss,
     Due(usize),
@@ -25,7 +25,7 @@ pub enum Rule {
 }
 
 // The packet due to be resent, by its index from the front, or none.
-#[derive(Drop)]
+#[derive(Clone, Copy)]
 pub enum Due {
     Nothing,
     At(usize),

@@ -16,7 +16,7 @@ pub mod unsent;
 pub mod waits;
 
 // The books after a rule, and how many records the list then has.
-#[derive(Drop)]
+#[derive(Clone, Copy)]
 pub struct Written {
     pub buffer: SendBuffer,
     pub count: usize,

@@ -22,7 +22,7 @@ use rules_refusals::{Refusal, Verdict};
 pub mod judging;
 
 // Everything that a sender keeps besides the lent areas.
-#[derive(Drop)]
+#[derive(Clone, Copy)]
 pub struct Sender {
     pub settings: Settings,
     pub buffer: SendBuffer,
@@ -30,21 +30,21 @@ pub struct Sender {
 }
 
 // The answer of `new`.
-#[derive(Drop)]
+#[derive(Clone, Copy)]
 pub enum Made {
     Ready(Sender),
     Refused(Refusal),
 }
 
 // The new period after a message, in microseconds, if there is one.
-#[derive(Drop)]
+#[derive(Clone, Copy)]
 pub enum NewPeriod {
     None,
     Set(u64),
 }
 
 // What an accepted message did: packets made, packets removed, wire bytes removed, and any new period.
-#[derive(Drop)]
+#[derive(Clone, Copy)]
 pub struct Answer {
     pub made: usize,
     pub removed: usize,
@@ -53,14 +53,14 @@ pub struct Answer {
 }
 
 // The answer of `message`. If it is refused, the caller's sender is unchanged.
-#[derive(Drop)]
+#[derive(Clone, Copy)]
 pub enum Messaged {
     Done(Sender, Answer),
     Refused(Refusal),
 }
 
 // The answer of `ack`, with the sender from then on: after a stale full ACK it has the new round-trip time.
-#[derive(Drop)]
+#[derive(Clone, Copy)]
 pub enum Acknowledged {
     Done(Sender, AckAction),
     Refused(Sender, Refusal),

@@ -16,10 +16,10 @@ below c w h =
     read_below a.bytes.now a.at (a.at + a.w) c.loop-i.i c.loop-i.n w c.loop-i.invariant bytes (omega arith) h
 
 pub overflow_mul-n : goal.overflow_mul-n
-overflow_mul-n c = omega (arith, below c 7 (omega arith))
+overflow_mul-n c = omega (arith, below (goal.at.overflow_mul-n c).At-loop-i 7 (omega arith))
 
 pub overflow_add-n : goal.overflow_add-n
-overflow_add-n c = omega (arith, below c 7 (omega arith))
+overflow_add-n c = omega (arith, below (goal.at.overflow_add-n c).At-loop-i 7 (omega arith))
 
 pub loop-i-preserved : goal.loop-i-preserved
 loop-i-preserved c =
@@ -31,4 +31,4 @@ pub returns : goal.returns
 returns c =
     let a = c.args in
     let l = c.loop-i in
-    record { value = read_all a.bytes.now a.at (a.at + a.w) l.i l.n l.invariant (omega arith); upper_bound = below c a.w (omega arith) }
+    record { value = read_all a.bytes.now a.at (a.at + a.w) l.i l.n l.invariant (omega arith); upper_bound = below (goal.at.returns c).At-loop-i a.w (omega arith) }
