@@ -62,7 +62,7 @@ module _ {c : Settings} {w : World} {s : Sender} (S : Stood c w s) where
   K = subst (λ (d : Settings). Kept d s) (sym S.settings) S.kept
 
   long : store_size (rules_of w.books) ≤ length w.store
-  long = rw S.settings S.room
+  long = subst (λ (d : Settings). store_size d ≤ length w.store) (sym S.settings) S.room
 
   pub one_answer : (k : Call) → Fits k → Same s k w (rules.answer (rules_of w.books) (rule_of k) s)
   one_answer (message time now bytes) f = Message.message_refines w.books s S.stands K time now bytes w.store long
