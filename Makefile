@@ -1,5 +1,5 @@
 # make          this list
-# make test     the gate: layout, trace, a bounded comparison with the Rust, the library from C, every proof, every must-fail edit, every program
+# make test     the gate: trace, every proof, every must-fail edit, every program, a bounded comparison with the Rust, the library from C
 # make demo     the hub's morning over the rollover of the stamp, on a simulated clock, and what judging lateness on the stamp leads to
 # make figures  builds what is proved and prints document 01's figures that it decides
 # make compare  the whole comparison with the Rust, some minutes
@@ -40,8 +40,7 @@ target/demo/story: $(wildcard demo/*.c) demo/story.h include/phelgomrit.h $(LIB)
 
 figures:
 	@$(RT)
-	rt check print_figures
-	cat target/log/print_figures.stdout
+	cd crates/print_figures && rt run
 
 compare:
 	compare/run full
@@ -54,12 +53,12 @@ fuzz: $(NATIVE_LIB)
 
 lib:
 	@$(RT)
-	rt staticlib phelgomrit
+	tools/archive phelgomrit
 
 # Where there is no library yet it is made; `make lib` makes it anew.
 $(LIB):
 	@$(RT)
-	rt staticlib phelgomrit
+	tools/archive phelgomrit
 
 ctest: $(LIB)
 	tests/run

@@ -71,15 +71,13 @@ fn piece_of(a: Cutting) -> PieceAnswer
     }
 }
 
-#[unsafe(no_mangle)]
-pub extern "C" fn compare_split_packets(len: usize, size: usize) -> PacketsAnswer
+pub fn compare_split_packets(len: usize, size: usize) -> PacketsAnswer
     ensures { result ≡ packets_of (split size len) }
 {
     packets_of(encapsulate::packets(len, size))
 }
 
-#[unsafe(no_mangle)]
-pub extern "C" fn compare_split_packet(len: usize, size: usize, k: usize) -> PieceAnswer
+pub fn compare_split_packet(len: usize, size: usize, k: usize) -> PieceAnswer
     ensures { result ≡ piece_of (piece size len k) }
 {
     piece_of(encapsulate::packet(len, size, k))

@@ -73,8 +73,7 @@ fn fresh(mode: u32, rate: u64, overhead: u64) -> FlatPacing
 }
 
 // Pacing of a new sender.
-#[unsafe(no_mangle)]
-pub extern "C" fn compare_pacing_new(mode: u32, rate: u64, overhead: u64) -> PacingAnswer
+pub fn compare_pacing_new(mode: u32, rate: u64, overhead: u64) -> PacingAnswer
     ensures { result ≡ pacing_new mode rate overhead }
 {
     let given = fresh(mode, rate, overhead);
@@ -82,8 +81,7 @@ pub extern "C" fn compare_pacing_new(mode: u32, rate: u64, overhead: u64) -> Pac
 }
 
 // Packets and payload bytes that come in at `now`.
-#[unsafe(no_mangle)]
-pub extern "C" fn compare_pacing_on_input(
+pub fn compare_pacing_on_input(
     pacing: FlatPacing,
     now: u64,
     packets: u64,

@@ -55,44 +55,38 @@ fn timer_checked(before: Timer, a: TimerChecked) -> TimerAnswer
 }
 
 // A new timer; a refused call returns one of zeros.
-#[unsafe(no_mangle)]
-pub extern "C" fn compare_timer_new(now: u64, period: u64) -> TimerAnswer
+pub fn compare_timer_new(now: u64, period: u64) -> TimerAnswer
     ensures { result ≡ timer_set blank (made now period) }
 {
     let blank = Timer { period: 0, last: 0 };
     timer_set(blank, timer::new(now, period))
 }
 
-#[unsafe(no_mangle)]
-pub extern "C" fn compare_timer_period(timer: Timer) -> NanosecondsAnswer
+pub fn compare_timer_period(timer: Timer) -> NanosecondsAnswer
     ensures { result ≡ nanoseconds (period_of timer) }
 {
     nanoseconds(timer::period(timer))
 }
 
-#[unsafe(no_mangle)]
-pub extern "C" fn compare_timer_next_instant(timer: Timer) -> NanosecondsAnswer
+pub fn compare_timer_next_instant(timer: Timer) -> NanosecondsAnswer
     ensures { result ≡ nanoseconds (next_instant timer) }
 {
     nanoseconds(timer::next_instant(timer))
 }
 
-#[unsafe(no_mangle)]
-pub extern "C" fn compare_timer_reset(timer: Timer, now: u64) -> TimerAnswer
+pub fn compare_timer_reset(timer: Timer, now: u64) -> TimerAnswer
     ensures { result ≡ timer_set timer (reset timer now) }
 {
     timer_set(timer, timer::reset(timer, now))
 }
 
-#[unsafe(no_mangle)]
-pub extern "C" fn compare_timer_set_period(timer: Timer, period: u64) -> TimerAnswer
+pub fn compare_timer_set_period(timer: Timer, period: u64) -> TimerAnswer
     ensures { result ≡ timer_set timer (set_period timer period) }
 {
     timer_set(timer, timer::set_period(timer, period))
 }
 
-#[unsafe(no_mangle)]
-pub extern "C" fn compare_timer_check_expired(timer: Timer, now: u64) -> TimerAnswer
+pub fn compare_timer_check_expired(timer: Timer, now: u64) -> TimerAnswer
     ensures { result ≡ timer_checked timer (check_expired timer now) }
 {
     timer_checked(timer, timer::check_expired(timer, now))

@@ -1,5 +1,5 @@
-// What a host links: the product's calls as C entries. Each takes any numbers and any lent areas, always returns an
-// answer, and has no `requires`. include/phelgomrit.h wraps them in the form that a C programmer expects.
+// The product's calls as a host makes them. Each takes any numbers and any lent areas, always returns an answer, and has
+// no `requires`. phelgomrit_c exports them to C, and include/phelgomrit.h wraps them in the form that a C programmer expects.
 #![tactic(auto)]
 
 pub mod of_packet;

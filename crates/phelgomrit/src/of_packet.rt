@@ -24,8 +24,7 @@ pub fn place_of(bits: u32) -> Place
 }
 
 // The sixteen header bytes, made from the low bits of the place, the number and the message number.
-#[unsafe(no_mangle)]
-pub extern "C" fn phel_entry_header(
+pub fn phel_entry_header(
     out: &mut [u8; 16],
     place: u32,
     again: bool,

@@ -16,13 +16,7 @@ use rules_numbers::Rtt;
 use sender::Sender;
 
 // A new sender.
-#[unsafe(no_mangle)]
-pub extern "C" fn phel_entry_new(
-    settings: Settings,
-    mode: u32,
-    rate: u64,
-    overhead: u64,
-) -> NewAnswer
+pub fn phel_entry_new(settings: Settings, mode: u32, rate: u64, overhead: u64) -> NewAnswer
     ensures { result ≡ new_of (made settings (mode_of mode rate overhead)) }
 {
     let mode = host_structs::pacings::mode_of(mode, rate, overhead);
@@ -30,8 +24,7 @@ pub extern "C" fn phel_entry_new(
 }
 
 // A message with its time, pushed at `ts_now`.
-#[unsafe(no_mangle)]
-pub extern "C" fn phel_entry_message(
+pub fn phel_entry_message(
     given: FlatSender,
     time: u64,
     ts_now: u64,
@@ -49,8 +42,7 @@ pub extern "C" fn phel_entry_message(
 }
 
 // An ACK; `full` says whether it has a full number, `measured` whether it has a round-trip time.
-#[unsafe(no_mangle)]
-pub extern "C" fn phel_entry_ack(
+pub fn phel_entry_ack(
     given: FlatSender,
     ack_number: u32,
     full: bool,
@@ -70,8 +62,7 @@ pub extern "C" fn phel_entry_ack(
 }
 
 // A loss report; the runs of the answer are written to `out`.
-#[unsafe(no_mangle)]
-pub extern "C" fn phel_entry_nak(
+pub fn phel_entry_nak(
     given: FlatSender,
     words: &[u32],
     ring: &[u64],
@@ -86,8 +77,7 @@ pub extern "C" fn phel_entry_nak(
 }
 
 // A run at `ts_now`; the records are written to `out`.
-#[unsafe(no_mangle)]
-pub extern "C" fn phel_entry_run(
+pub fn phel_entry_run(
     given: FlatSender,
     ts_now: u64,
     budget: u32,
@@ -105,8 +95,7 @@ pub extern "C" fn phel_entry_run(
 }
 
 // Where the payload with this number lies in the store.
-#[unsafe(no_mangle)]
-pub extern "C" fn phel_entry_payload(
+pub fn phel_entry_payload(
     given: FlatSender,
     number: u32,
     ring: &[u64],
@@ -125,8 +114,7 @@ pub extern "C" fn phel_entry_payload(
 }
 
 // The reports.
-#[unsafe(no_mangle)]
-pub extern "C" fn phel_entry_reports(given: FlatSender, ring: &[u64], lost: &[u32]) -> ReportsAnswer
+pub fn phel_entry_reports(given: FlatSender, ring: &[u64], lost: &[u32]) -> ReportsAnswer
     ensures { result ≡ reports_of (reports given ring.now lost.now) }
 {
     host_structs::questions::reports_answer(reports::reports(given.sender(), ring, lost))

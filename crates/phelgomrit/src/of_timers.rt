@@ -12,16 +12,14 @@ use rules_numbers::Rtt;
 use rules_timers::Timers;
 
 // New timers; a refused call returns zeros.
-#[unsafe(no_mangle)]
-pub extern "C" fn phel_entry_timers_new(now: u64, statistics: u64, idle: u64) -> TimersAnswer
+pub fn phel_entry_timers_new(now: u64, statistics: u64, idle: u64) -> TimersAnswer
     ensures { result ≡ timers_set blanks (new now statistics idle) }
 {
     timers_set(blanks(), timers::new(now, statistics, idle))
 }
 
 // `known` says whether the host knows its next message's time.
-#[unsafe(no_mangle)]
-pub extern "C" fn phel_entry_timers_next_timer(
+pub fn phel_entry_timers_next_timer(
     timers: Timers,
     now: u64,
     packets: bool,
@@ -40,60 +38,49 @@ pub extern "C" fn phel_entry_timers_next_timer(
     ))
 }
 
-#[unsafe(no_mangle)]
-pub extern "C" fn phel_entry_timers_check_snd(timers: Timers, now: u64) -> TimersAnswer
+pub fn phel_entry_timers_check_snd(timers: Timers, now: u64) -> TimersAnswer
     ensures { result ≡ timers_checked timers (check_snd timers now) }
 {
     timers_checked(timers, timer_checks::check_snd(timers, now))
 }
 
-#[unsafe(no_mangle)]
-pub extern "C" fn phel_entry_timers_check_full_ack(timers: Timers, now: u64) -> TimersAnswer
+pub fn phel_entry_timers_check_full_ack(timers: Timers, now: u64) -> TimersAnswer
     ensures { result ≡ timers_checked timers (check_full_ack timers now) }
 {
     timers_checked(timers, timer_checks::check_full_ack(timers, now))
 }
 
-#[unsafe(no_mangle)]
-pub extern "C" fn phel_entry_timers_check_nak(timers: Timers, now: u64) -> TimersAnswer
+pub fn phel_entry_timers_check_nak(timers: Timers, now: u64) -> TimersAnswer
     ensures { result ≡ timers_checked timers (check_nak timers now) }
 {
     timers_checked(timers, timer_checks::check_nak(timers, now))
 }
 
-#[unsafe(no_mangle)]
-pub extern "C" fn phel_entry_timers_check_statistics(timers: Timers, now: u64) -> TimersAnswer
+pub fn phel_entry_timers_check_statistics(timers: Timers, now: u64) -> TimersAnswer
     ensures { result ≡ timers_checked timers (check_statistics timers now) }
 {
     timers_checked(timers, timer_checks::check_statistics(timers, now))
 }
 
-#[unsafe(no_mangle)]
-pub extern "C" fn phel_entry_timers_check_peer_idle_timeout(
-    timers: Timers,
-    now: u64,
-) -> TimersAnswer
+pub fn phel_entry_timers_check_peer_idle_timeout(timers: Timers, now: u64) -> TimersAnswer
     ensures { result ≡ timers_checked timers (check_peer_idle_timeout timers now) }
 {
     timers_checked(timers, timer_checks::check_peer_idle_timeout(timers, now))
 }
 
-#[unsafe(no_mangle)]
-pub extern "C" fn phel_entry_timers_update_snd_period(timers: Timers, period: u64) -> TimersAnswer
+pub fn phel_entry_timers_update_snd_period(timers: Timers, period: u64) -> TimersAnswer
     ensures { result ≡ timers_set timers (update_snd_period timers period) }
 {
     timers_set(timers, timers::update_snd_period(timers, period))
 }
 
-#[unsafe(no_mangle)]
-pub extern "C" fn phel_entry_timers_update_rtt(timers: Timers, rtt: Rtt) -> TimersAnswer
+pub fn phel_entry_timers_update_rtt(timers: Timers, rtt: Rtt) -> TimersAnswer
     ensures { result ≡ timers_set timers (update_rtt timers rtt) }
 {
     timers_set(timers, timers::update_rtt(timers, rtt))
 }
 
-#[unsafe(no_mangle)]
-pub extern "C" fn phel_entry_timers_reset_exp(timers: Timers, now: u64) -> TimersAnswer
+pub fn phel_entry_timers_reset_exp(timers: Timers, now: u64) -> TimersAnswer
     ensures { result ≡ timers_set timers (reset_exp timers now) }
 {
     timers_set(timers, timers::reset_exp(timers, now))

@@ -1,0 +1,94 @@
+// The timers' calls: document 01, "Timers".
+ghost use Rattle.std.specs.Prelude.{◌≡◌};
+ghost use Rattle.rules_timers.specs.Timers.{new, update_snd_period, update_rtt, reset_exp};
+ghost use Rattle.rules_timers.specs.Wake.{next_timer};
+ghost use Rattle.rules_timers.specs.Checks.{check_snd, check_full_ack, check_nak, check_statistics, check_peer_idle_timeout};
+ghost use Rattle.host_timers.specs.TimersAnswers.{nanoseconds, blanks, timers_set, timers_checked, next_message};
+
+use host_timers::{NanosecondsAnswer, TimersAnswer};
+use rules_numbers::Rtt;
+use rules_timers::Timers;
+
+// New timers; a refused call returns zeros.
+#[unsafe(no_mangle)]
+pub extern "C" fn phel_entry_timers_new(now: u64, statistics: u64, idle: u64) -> TimersAnswer
+    ensures { result ≡ timers_set blanks (new now statistics idle) }
+{
+    phelgomrit::of_timers::phel_entry_timers_new(now, statistics, idle)
+}
+
+// `known` says whether the host knows its next message's time.
+#[unsafe(no_mangle)]
+pub extern "C" fn phel_entry_timers_next_timer(
+    timers: Timers,
+    now: u64,
+    packets: bool,
+    known: bool,
+    message: u64,
+    unacked: u32,
+) -> NanosecondsAnswer
+    ensures { result ≡ nanoseconds (next_timer timers now packets (next_message known message) unacked) }
+{
+    phelgomrit::of_timers::phel_entry_timers_next_timer(
+        timers, now, packets, known, message, unacked,
+    )
+}
+
+#[unsafe(no_mangle)]
+pub extern "C" fn phel_entry_timers_check_snd(timers: Timers, now: u64) -> TimersAnswer
+    ensures { result ≡ timers_checked timers (check_snd timers now) }
+{
+    phelgomrit::of_timers::phel_entry_timers_check_snd(timers, now)
+}
+
+#[unsafe(no_mangle)]
+pub extern "C" fn phel_entry_timers_check_full_ack(timers: Timers, now: u64) -> TimersAnswer
+    ensures { result ≡ timers_checked timers (check_full_ack timers now) }
+{
+    phelgomrit::of_timers::phel_entry_timers_check_full_ack(timers, now)
+}
+
+#[unsafe(no_mangle)]
+pub extern "C" fn phel_entry_timers_check_nak(timers: Timers, now: u64) -> TimersAnswer
+    ensures { result ≡ timers_checked timers (check_nak timers now) }
+{
+    phelgomrit::of_timers::phel_entry_timers_check_nak(timers, now)
+}
+
+#[unsafe(no_mangle)]
+pub extern "C" fn phel_entry_timers_check_statistics(timers: Timers, now: u64) -> TimersAnswer
+    ensures { result ≡ timers_checked timers (check_statistics timers now) }
+{
+    phelgomrit::of_timers::phel_entry_timers_check_statistics(timers, now)
+}
+
+#[unsafe(no_mangle)]
+pub extern "C" fn phel_entry_timers_check_peer_idle_timeout(
+    timers: Timers,
+    now: u64,
+) -> TimersAnswer
+    ensures { result ≡ timers_checked timers (check_peer_idle_timeout timers now) }
+{
+    phelgomrit::of_timers::phel_entry_timers_check_peer_idle_timeout(timers, now)
+}
+
+#[unsafe(no_mangle)]
+pub extern "C" fn phel_entry_timers_update_snd_period(timers: Timers, period: u64) -> TimersAnswer
+    ensures { result ≡ timers_set timers (update_snd_period timers period) }
+{
+    phelgomrit::of_timers::phel_entry_timers_update_snd_period(timers, period)
+}
+
+#[unsafe(no_mangle)]
+pub extern "C" fn phel_entry_timers_update_rtt(timers: Timers, rtt: Rtt) -> TimersAnswer
+    ensures { result ≡ timers_set timers (update_rtt timers rtt) }
+{
+    phelgomrit::of_timers::phel_entry_timers_update_rtt(timers, rtt)
+}
+
+#[unsafe(no_mangle)]
+pub extern "C" fn phel_entry_timers_reset_exp(timers: Timers, now: u64) -> TimersAnswer
+    ensures { result ≡ timers_set timers (reset_exp timers now) }
+{
+    phelgomrit::of_timers::phel_entry_timers_reset_exp(timers, now)
+}
