@@ -4,7 +4,8 @@
 use Rattle.std.proofs.Common.{◌≡◌, ℕ, ◌+◌, ◌%◌, ◌<◌, sym, ap, ◌∙◌, mod-lt, add_comm}
 use native.Mathlib.Nat.{add-mod-mod, mod-mod_of_dvd, dvd_of_mod-eq-zero}
 use Rattle.rules_numbers.specs.Modular.{plus, dist}
-use Rattle.rules_numbers.specs.Modular.Laws.{plus-is, dist-mod, dist_unique}
+use Rattle.rules_numbers.specs.Modular.Laws.{plus-is, dist-mod}
+use Rattle.rules_numbers.proofs.Unique.{dist_unique}
 
 pub plus_wrapped : (m w a k r : ℕ) → w % m ≡ 0 → r ≡ (a + k) % w → r % m ≡ plus m a k
 plus_wrapped m w a k r d e =

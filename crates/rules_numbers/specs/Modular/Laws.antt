@@ -3,7 +3,7 @@
 --   dist-below              a distance is below m
 --   dist-mod                a word that is no number, m or more, lies where its remainder lies
 --   dist-plus, plus-dist    the number k further lies k after; and the number that lies dist a b after a is b
---   dist_unique             what is below m and leads from a to b is the distance, and nothing else is
+-- That nothing else is the distance follows from these: proofs/Unique.
 use Rattle.std.specs.Prelude.{◌≡◌, refl, ℕ, ◌+◌, ◌-◌, ◌%◌, ◌<◌}
 use Rattle.std.proofs.Common.{sym, ap, ◌∙◌, zero-le, mod-lt, mod-eq_of_lt, add_assoc, add_comm, add-zero, add-sub_of_le, le_of_lt, lt_of_le_of_lt}
 use Rattle.std.proofs.Math.Nat.{mod_self, mod-add-mod, add-mod-mod}
@@ -46,6 +46,3 @@ plus-dist m a b h =
     ∙ ap (λ (n : ℕ). n % m) (sym (add_assoc a b (m - a % m)))
     ∙ round m a b (lt_of_le_of_lt zero-le h)
     ∙ mod-eq_of_lt h
-
-pub dist_unique : (m a b k : ℕ) → k < m → plus m a k ≡ b → dist m a b ≡ k
-dist_unique m a b k h e = ap (dist m a) (sym e) ∙ dist-plus m a k h

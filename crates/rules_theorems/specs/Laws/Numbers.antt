@@ -7,7 +7,8 @@
 use Rattle.std.specs.Prelude.{◌≡◌, ℕ, ◌+◌, ◌-◌, ◌%◌, ◌^◌, ◌≤◌, ◌<◌}
 use Rattle.std.proofs.Common.{sym, ◌∙◌, arith, mod-lt, lit<}
 use Rattle.rules_numbers.specs.Modular.{seqs, dist}
-use Rattle.rules_numbers.specs.Modular.Laws.{plus-is, dist_unique}
+use Rattle.rules_numbers.specs.Modular.Laws.{plus-is}
+use Rattle.rules_numbers.proofs.Unique.{dist_unique}
 use Rattle.rules.specs.Numbers.{wire, distance}
 
 pub wire-below : (n : ℕ) → wire n < 2 ^ 31

@@ -1,32 +1,11 @@
 -- Document 01's table of refusals as figures: its names, in order, have the numbers 1 to 14, and three return values.
 use Rattle.std.specs.Prelude.{◌≡◌, refl, true, false, List, [], ◌∷◌, map, ℕ}
-use Rattle.rules_numbers.specs.declared.SeqNumber.{SeqNumber}
 use Rattle.rules_refusals.specs.Table.{number_of, values_of}
+use Rattle.rules_refusals.specs.Listed.{table}
 use Rattle.rules_refusals.specs.Verdict.{when, answer, verdict_number}
 use Rattle.rules_refusals.specs.declared.Verdict.TheVariants as verdict
 use Rattle.rules_refusals.specs.declared.Refusal.{Refusal}
-use Rattle.rules_refusals.specs.declared.Refusal.TheVariants.{BadSetting, BadStore, BadState, BadTime, TooLong, CountFull, BadNumber, BadRtt, Empty, InvalidAck, StaleFullAck, BadNak, NoRoom, NotHeld}
-
-abbrev number : ℕ → SeqNumber
-number n = record { 0 = n }
-
-abbrev table : List Refusal
-table =
-    BadSetting
-    ∷ BadStore
-    ∷ BadState
-    ∷ BadTime
-    ∷ TooLong
-    ∷ CountFull
-    ∷ BadNumber
-    ∷ BadRtt
-    ∷ Empty
-    ∷ InvalidAck (number 21) (number 22) (number 23)
-    ∷ StaleFullAck 24 25
-    ∷ BadNak 26
-    ∷ NoRoom
-    ∷ NotHeld
-    ∷ []
+use Rattle.rules_refusals.specs.declared.Refusal.TheVariants.{BadSetting, BadStore, BadState, NotHeld}
 
 pub record Figures : Type 0 where
   pub numbers : map number_of table ≡ 1 ∷ 2 ∷ 3 ∷ 4 ∷ 5 ∷ 6 ∷ 7 ∷ 8 ∷ 9 ∷ 10 ∷ 11 ∷ 12 ∷ 13 ∷ 14 ∷ []
