@@ -1,7 +1,7 @@
 -- Document 01's table of refusals as figures: its names, in order, have the numbers 1 to 14, and three return values.
 use Rattle.std.specs.Prelude.{◌≡◌, refl, true, false, List, [], ◌∷◌, map, ℕ}
 use Rattle.rules_refusals.specs.Table.{number_of, values_of}
-use Rattle.rules_refusals.specs.Listed.{table}
+use Rattle.rules_refusals.specs.Figures.{table}
 use Rattle.rules_refusals.specs.Verdict.{when, answer, verdict_number}
 use Rattle.rules_refusals.specs.declared.Verdict.TheVariants as verdict
 use Rattle.rules_refusals.specs.declared.Refusal.{Refusal}

@@ -1,4 +1,4 @@
--- Document 01's table of refusals, in its order, as a list: what the figures are computed from.
+-- Document 01's table of refusals, in its order, as a list: proofs/Figures computes its figures from it.
 use Rattle.std.specs.Prelude.{List, [], ◌∷◌, ℕ}
 use Rattle.rules_numbers.specs.declared.SeqNumber.{SeqNumber}
 use Rattle.rules_refusals.specs.declared.Refusal.{Refusal}
