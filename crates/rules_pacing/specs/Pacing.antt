@@ -9,7 +9,7 @@
 --   snd_period s                     the period given by the kept means
 --   input s now packets bytes       the answer to an accepted input
 --   on_input s now packets bytes     the answer to any input
-use Rattle.std.specs.Prelude.{Bool, false, cond, not, ◌||◌, ℕ, ◌+◌, ◌^◌, leb}
+use Rattle.std.specs.Prelude.{Bool, false, cond, not, ◌||◌, ℕ, ◌+◌, leb}
 use Rattle.rules_numbers.specs.Limits.{time_limit}
 use Rattle.rules_refusals.specs.declared.Refusal.TheVariants.{BadState, BadTime, CountFull}
 use Rattle.rules_pacing.specs.declared.Next.{Next}

@@ -1,5 +1,5 @@
 -- Document 01's table of refusals as figures: its names, in order, have the numbers 1 to 14, and three return values.
-use Rattle.std.specs.Prelude.{◌≡◌, refl, true, false, List, [], ◌∷◌, map, ℕ}
+use Rattle.std.specs.Prelude.{◌≡◌, refl, true, false, [], ◌∷◌, map}
 use Rattle.rules_refusals.specs.Table.{number_of, values_of}
 use Rattle.rules_refusals.specs.Figures.{table}
 use Rattle.rules_refusals.specs.Verdict.{when, answer, verdict_number}

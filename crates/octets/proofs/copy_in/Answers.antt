@@ -1,6 +1,6 @@
 -- `octets::copy_in` meets its contract. The loop's invariant: the first i bytes lie at `at`, and `dst` is as long as it was. A turn's store is
 -- `lib.Seq`'s `paste-suc`; the measure is what is left to copy.
-use Rattle.std.proofs.Common.{add-one, arith, refl, rules, ◌-◌, ◌≡◌}
+use Rattle.std.proofs.Common.{add-one, arith, refl, rules, ◌≡◌}
 use lib.Seq.{paste-zero, paste-suc}
 use Rattle.octets.proofs.copy_in.Goals as goal
 

@@ -1,6 +1,6 @@
 -- `octets::little_at` meets its contract. The loop's invariant: n is the number of the bytes from i up to the end (`Read`). A turn adds the byte
 -- before them (`read_more`); where seven are read at most, a word holds one more (`read_below`). The measure is what is left to read.
-use Rattle.std.proofs.Common.{arith, ℕ, ◌+◌, ◌-◌, ◌<◌, ◌^◌, ◌≤◌}
+use Rattle.std.proofs.Common.{arith, ℕ, ◌+◌, ◌<◌, ◌^◌, ◌≤◌}
 use Rattle.octets.specs.Laws.{Bytes, read_none, read_more, read_all, read_below}
 use Rattle.octets.proofs.little_at.Goals as goal
 use Rattle.octets.proofs.little_at.Goals.{At-loop-i}
