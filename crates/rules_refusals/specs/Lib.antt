@@ -1,3 +1,4 @@
 pub mod Table
 pub mod Verdict
+pub mod Order
 pub mod Figures
