@@ -1,9 +1,9 @@
 -- A record of the code as an action of the rules (crates/rules, Records): the kinds have the Rust's names here.
---   kind_of k        the rules' kind
---   Numbered k n    n is the number of document 01's "Action record": "kind (1 Send, 2 resend by time, 3 resend by loss, 4 Drop, 5 wait
---                   input, 6 wait ACK)"
---   action_of r      the rules' action
---   plain k ..      the record of a drop or a wait, with a number, a word and a stamp: "Unused fields are 0"
+--   kind_of k      the rules' kind
+--   Numbered k n   n is the number of document 01's "Action record": "kind (1 Send, 2 resend by time, 3 resend by loss, 4 Drop, 5 wait
+--                  input, 6 wait ACK)"
+--   action_of r    the rules' action
+--   plain k ..     the record of a drop or a wait, with a number, a word and a stamp: "Unused fields are 0"
 pub mod Laws
 use Rattle.std.specs.Prelude.{◌≡◌, ℕ, ◌≤◌}
 use Rattle.rules.specs.Records as rules

@@ -4,13 +4,13 @@
 -- times below 2^48; payloads at most packet size; byte count below 2^62 and not below the sum of buffered wire sizes;
 -- .. the expected full number 1 to 2^32; every other kept field in the range given here." A host entry refuses with 3,
 -- BadState, exactly where `kept` is false, after testing for 2, BadStore, whether an area is too short.
---   flushed_kept c f                     the rules of the flushed packet
---   numbers_kept c b                     the rules of the kept numbers
---   areas_kept c b n m                   whether n words hold the ring and m the loss list, by the capacity
---   all t es                            whether t holds of every entry of es
+--   flushed_kept c f                       the rules of the flushed packet
+--   numbers_kept c b                       the rules of the kept numbers
+--   areas_kept c b n m                     whether n words hold the ring and m the loss list, by the capacity
+--   all t es                               whether t holds of every entry of es
 --   sent_entry, unsent_entry, entry_kept   the rules of a sent packet's entry, of an unsent one's, of either
---   entries_kept c b xs                  the rules of every packet's entry in the words xs
---   kept c st                           the book rules
+--   entries_kept c b xs                    the rules of every packet's entry in the words xs
+--   kept c st                              the book rules
 -- Packet numbers are consecutive in any books. Pacing and the timers are checked elsewhere.
 pub mod Entries
 pub mod Laws

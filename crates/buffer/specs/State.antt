@@ -1,13 +1,13 @@
 -- The books together with the lent areas, and the packets and loss list that they hold.
---   State, state      the kept numbers, the ring's words, the loss list's words
---   fresh c           the kept numbers of a new sender
+--   State, state       the kept numbers, the ring's words, the loss list's words
+--   fresh c            the kept numbers of a new sender
 --   settings_of c      the settings, as in the rules
 --   place_from w       the place in the word w of an entry, by document 01's two bits
 --   packet_of e        the packet of an entry
 --   packets_of r xs    the packets of a ring in the words xs, from the front
---   view st           the buffered packets
+--   view st            the buffered packets
 --   lost_of st         the loss list as it is in its area: farthest first
---   put b ..          b with another ring, front, sent count, loss count and byte count
+--   put b ..           b with another ring, front, sent count, loss count and byte count
 --   with_others b ..   b with another RTT, message number, expected full number and flushed packet
 pub mod Facts
 pub mod Fresh

@@ -1,14 +1,14 @@
 -- Document 01, "ACK", on the books and the lent areas. "First to next unsent, inclusive. RTT is taken over; then the
 -- full number is tested .. Loss entries below the ACK go (`recovered`), then packets below it (`received`). Both counts
 -- and the full number are returned." "All stays as before; 11 alone keeps a new RTT."
---   full_of, rtt_of                the full number and the round-trip time of an ACK, if it has them
---   with b rtt e                 b with another round-trip time and expected full number
---   ack_of n st                   how far the ACK's number lies after the front: the number of packets acknowledged
---   judge len front sent n       refusals 9 and 10, from the number of packets, the front and how many are sent
---   judge_on n st                 the same, on the books
---   take_rtt rtt st               the round-trip time taken over
---   acknowledged c d full st     d packets acknowledged
---   refused, done, update        a refused ACK, an accepted one; the call. The lent areas are only read
+--   full_of, rtt_of                 the full number and the round-trip time of an ACK, if it has them
+--   with b rtt e                    b with another round-trip time and expected full number
+--   ack_of n st                     how far the ACK's number lies after the front: the number of packets acknowledged
+--   judge len front sent n          refusals 9 and 10, from the number of packets, the front and how many are sent
+--   judge_on n st                   the same, on the books
+--   take_rtt rtt st                 the round-trip time taken over
+--   acknowledged c d full st        d packets acknowledged
+--   refused, done, update           a refused ACK, an accepted one; the call. The lent areas are only read
 --   verdict_of, books_of, said_of   an answer's verdict, its books, and its values, as in the rules
 pub mod Laws
 pub mod Stands

@@ -4,11 +4,11 @@
 --   with_lost b n             b with another length of the loss list
 --   runs_for b ws             the runs of the answer to the words ws
 --   enter_run f kind a e xs   the list xs with the numbers from a up to e, exclusive, entered if the kind is Added; f is
---                            the front
+--                             the front
 --   enter_runs f rs xs        the same for the runs rs, one after the other
 --   lost_after b ws lost      the loss list after the report
---   Left, left               the call's answer, and the loss area and the answer list afterwards
---   add                      the call
+--   Left, left                the call's answer, and the loss area and the answer list afterwards
+--   add                       the call
 pub mod Laws
 pub mod Stands
 use Rattle.std.specs.Prelude.{cond, List, [], ◌∷◌, ℕ, eqb, length, take}

@@ -4,15 +4,15 @@
 -- Message.Laws and Message.OnePacket show that this agrees with the rules.
 --   entry_of c t m len k   the entry of packet k of a message of len bytes
 --   gone, make_room c st   the packet removed from a full buffer, and the state without it
---   append c e st         one more packet at the back
---   Work, work            the state with the three counts of the answer
---   Pushing, pushing      the same with the store
---   roomed, appended      make_room and append, with the counts
+--   append c e st          one more packet at the back
+--   Work, work             the state with the three counts of the answer
+--   Pushing, pushing       the same with the store
+--   roomed, appended       make_room and append, with the counts
 --   next_place c st        where the payload of the next packet goes in the store
 --   push_one, pushes       the next packet of a message, and the next n
---   begun b               the books once the message has its number and no flushed payload is held
+--   begun b                the books once the message has its number and no flushed payload is held
 --   none_yet b, opened     these books with no packet made yet; the pushing that starts from them
---   message               the whole message
+--   message                the whole message
 pub mod Laws
 pub mod OnePacket
 pub mod Parts

@@ -1,9 +1,9 @@
 -- The run on the lent areas. Document 01, "Run": "(now, budget p, draining) .. While budget remains, the first that
 -- applies". Rule 1 applies at most once, and first (rules_theorems, proofs/Split), so here it comes before the loop.
---   act, turn        what a rule does; the first rule that applies, done
---   Walk, walk       everything that a run changes: books and areas, the records, their number, the budget left
---   after            a walk after a turn
---   loop, run        the turns while budget remains; the run
+--   act, turn         what a rule does; the first rule that applies, done
+--   Walk, walk        everything that a run changes: books and areas, the records, their number, the budget left
+--   after             a walk after a turn
+--   loop, run         the turns while budget remains; the run
 --   swept, swept_by   rule 1, if the front is late; rule 1 for k packets
 pub mod Going
 pub mod Laws

@@ -1,6 +1,6 @@
 -- The answers of splitting as numbers.
 --   packets_of a   0 and the number of packets, or the refusal's number
---   nothing n     no packet, with refusal n or 0
+--   nothing n      no packet, with refusal n or 0
 --   piece_of a     0, found, and the packet's place bits, start and length; 0 and not found; or the refusal's number
 use Rattle.std.specs.Prelude.{true, false, ℕ}
 use Rattle.rules_refusals.specs.Table.{number_of}

@@ -1,9 +1,9 @@
 -- The answers of pacing as numbers.
---   fresh mode rate overhead      new pacing, as numbers
---   pacing_answer r n p            an answer from its three fields
+--   fresh mode rate overhead        new pacing, as numbers
+--   pacing_answer r n p             an answer from its three fields
 --   pacing_made, pacing_paced p a   the answers of `new` and `on_input`: 0, the period (0 for none) and the new numbers;
---                                 or the refusal's number and p unchanged
---   pacing_new, pacing_on_input      the calls
+--                                   or the refusal's number and p unchanged
+--   pacing_new, pacing_on_input     the calls
 use Rattle.std.specs.Prelude.{ℕ}
 use Rattle.rules_refusals.specs.Table.{number_of}
 use Rattle.rules_pacing.specs.declared.Made.{Made}

@@ -1,14 +1,14 @@
 -- The answers of the calls as numbers. Document 01, "What each place should look like": "Where an answer is an enum, a
 -- definition states this paper's number and values for each of its cases."
---   refusal n a b c, none           a refusal from its numbers; no refusal: all 0
---   refused_of r                     the refusal's number and its values (rules_refusals, Table)
---   blank                           a sender of zeros, for a refused `new`
+--   refusal n a b c, none              a refusal from its numbers; no refusal: all 0
+--   refused_of r                       the refusal's number and its values (rules_refusals, Table)
+--   blank                              a sender of zeros, for a refused `new`
 --   new_of, message_of, ack_of, nak_of, run_of, payload_of, reports_of
 --                                   the answers; a refused call returns the numbers f it was given
---   period_from p                    a new period, 0 for none
---   full_of, rtt_of                   an ACK's full number and round-trip time, if it has them
+--   period_from p                      a new period, 0 for none
+--   full_of, rtt_of                    an ACK's full number and round-trip time, if it has them
 --   ack_answer, answer_by, action_of   an ACK's answer from its fields; the answer to an accepted ACK
---   ack_left f s n                   "11 alone keeps a new RTT"
+--   ack_left f s n                     "11 alone keeps a new RTT"
 pub mod Laws
 use Rattle.std.specs.Prelude.{Bool, true, false, cond, ℕ, eqb, get_or}
 use Rattle.rules_numbers.specs.declared.Rtt.{Rtt}

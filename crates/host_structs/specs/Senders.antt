@@ -5,9 +5,9 @@
 --   next_of, begun_from, time_from     pacing's next: 1 and its time, or both 0
 --   mode_of, code_from, rate_from, overhead_from
 --                                   the bandwidth mode: 0 input, 1 estimated, 2 maximum, 3 unlimited, and its rates
---   control_of, pacing_from           what pacing keeps
---   buffer_of, books_from             what the send buffer keeps
---   sender_of, flat_from              all of it
+--   control_of, pacing_from            what pacing keeps
+--   buffer_of, books_from              what the send buffer keeps
+--   sender_of, flat_from               all of it
 pub mod Laws
 use Rattle.std.specs.Prelude.{cond, ◌&&◌, ℕ, eqb}
 use Rattle.rules_pacing.specs.declared.LiveBandwidthMode.{LiveBandwidthMode}

@@ -1,8 +1,8 @@
 -- The answers of the timers' calls as numbers. Document 01, "What each place should look like": "Where an answer is an
 -- enum, a definition states this paper's number and values for each of its cases."
---   told e                   how many periods a check found; 0 means none (Laws, ticked-some)
---   nanoseconds a            0 and the nanoseconds read, or the refusal's number
---   blank, blanks            six timers of zeros and an EXP count of 0, for a refused `new`
+--   told e                    how many periods a check found; 0 means none (Laws, ticked-some)
+--   nanoseconds a             0 and the nanoseconds read, or the refusal's number
+--   blank, blanks             six timers of zeros and an EXP count of 0, for a refused `new`
 --   timers_answer r n ts      an answer from its three fields
 --   timers_set ts a           after ts are made or set: 0 and the new timers, or the refusal's number and ts unchanged
 --   timers_checked ts a       after a check of one of ts: the same, with the periods

@@ -8,7 +8,7 @@
 --   falling x k            the k numbers from x on, the last of them first
 --   entered key x k xs     "Added numbers enter the list once": the k numbers from x on, between the entries beyond
 --                          them and the nearer ones
---   in_order, descends      whether xs are sequence numbers with keys below hi, descending without repeats
+--   in_order, descends     whether xs are sequence numbers with keys below hi, descending without repeats
 --   keeps front sent n e   the book rules of the first n elements of e, with `sent` packets sent from the front on
 pub mod Laws
 pub mod Runs

@@ -2,13 +2,13 @@
 -- and sent; else Ignored if its distance from next unsent is below 2^30; else Dropped. The answer lists, in order,
 -- maximal runs of one kind and consecutive numbers, also across items; each has an exclusive end." Here f is the front,
 -- and n packets are sent from there on.
---   code_of k                    the number of a kind in the list: 1 Added, 2 Ignored, 3 Dropped
---   words_for rs                 three words per run: its kind, its first number, its exclusive end
---   kind_at, reach_at f n m       the kind of the number m; how many consecutive numbers from m on are of that kind
---                               (reach_by)
---   run_at, stretch_at f n ..     the first run, and the first i runs, of the k numbers from m on
+--   code_of k                      the number of a kind in the list: 1 Added, 2 Ignored, 3 Dropped
+--   words_for rs                   three words per run: its kind, its first number, its exclusive end
+--   kind_at, reach_at f n m        the kind of the number m; how many consecutive numbers from m on are of that kind
+--                                  (reach_by)
+--   run_at, stretch_at f n ..      the first run, and the first i runs, of the k numbers from m on
 --   item_runs_at, runs_at f n is   the runs of an item, at most three; the runs of all items
---   add rs q, add_all            one more run at the end, joined to the last if that continues into it (merged)
+--   add rs q, add_all              one more run at the end, joined to the last if that continues into it (merged)
 pub mod Entering
 pub mod Laws
 pub mod Lent

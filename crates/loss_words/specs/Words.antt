@@ -1,11 +1,11 @@
 -- The words of a loss report, read at an index. Document 01, "Loss words" (the draft, Appendix A): "A word with top bit
 -- 0 is one number; top bit 1 opens a range whose next word, top bit 0, is its inclusive last. Distance first to last
 -- must be below 2^30." Row 12 of "Refusal numbers": "loss words malformed or over 512 words; returns the word's index".
---   step ws        what comes first in ws: one step of `parse` of the rules
+--   step ws         what comes first in ws: one step of `parse` of the rules
 --   step_at ws at   what is at index `at`
 --   width_of s      how many words it takes; 0 if it is not an item
 --   item_of s       its item; a single number is its own first and last
---   judged w       the answer to a report: how many items, or the index of the first word of the first bad one
+--   judged w        the answer to a report: how many items, or the index of the first word of the first bad one
 pub mod Laws
 use Rattle.std.specs.Prelude.{cond, List, [], ◌∷◌, ℕ, ◌-◌, ◌^◌, ltb, length, drop}
 use Rattle.rules.specs.Losses.{Item, Words, items, bad, is_range}

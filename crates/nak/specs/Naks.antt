@@ -2,7 +2,7 @@
 -- words malformed or over 512 words; returns the word's index"; NoRoom, "lent answer list too short"; "Room needed:
 -- three per item."
 --   nak_verdict g ws room   its tests; room is the number of words in the answer list, three per run
---   Naks, naks             the answer, and the loss area and the answer list afterwards; the ring is only read
+--   Naks, naks              the answer, and the loss area and the answer list afterwards; the ring is only read
 --   nak_by, nak             an accepted report; the call
 pub mod Laws
 pub mod Stands

@@ -1,10 +1,10 @@
 -- What holds of numbers and their bytes (crate rules_numbers, Bytes), each law once, over the width w.
 --   Bytes bs                             every element of bs is a byte
 --   little-length, little-bytes          the w bytes of a number are w, and bytes
---   from_little-little, from_little-fits   they stand for the number modulo 256^w; for the number itself, where it fits
---   little-from_little                    any bytes are those of the number that they stand for
---   from_little-below                     which is below 256^w
--- and the same with the highest byte first, each from its like: big-length, big-bytes, fromBig-big, fromBig-fits, big-fromBig, fromBig-below.
+--   from_little-little, from_little-fits they stand for the number modulo 256^w; for the number itself, where it fits
+--   little-from_little                   any bytes are those of the number that they stand for
+--   from_little-below                    which is below 256^w
+-- and the same with the highest byte first, each from its like: big-length, big-bytes, from_big-big, from_big-fits, big-from_big, from_big-below.
 -- For a loop that reads a number from its highest byte down:
 --   Read bs at e i n                     n is the number of the bytes from i up to e, of those from `at` up to e
 --   read_none, read_more                 of none it is 0; the byte before them makes it 256 times as much, and adds itself

@@ -2,9 +2,9 @@
 -- asked for isn't held". Held are the payloads of buffered packets, and "A flushed payload is held until the next
 -- accepted message."
 --   held_at, flushed_at   the flushed payload
---   find_in s n ring     looks among the buffered packets, by the distance from the front, then at the flushed one
---   payload_verdict      refusals 2, 3 and 7
---   payload             the call
+--   find_in s n ring      looks among the buffered packets, by the distance from the front, then at the flushed one
+--   payload_verdict       refusals 2, 3 and 7
+--   payload               the call
 pub mod Laws
 pub mod Stands
 use Rattle.std.specs.Prelude.{cond, List, ℕ, ◌*◌, ◌^◌, ltb, leb, eqb, length}

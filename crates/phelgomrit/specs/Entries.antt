@@ -1,10 +1,10 @@
 -- The host entries: the answer as numbers, and every lent element afterwards, of the call on the sender that the given
 -- numbers encode.
---   books_of f ring lost              the encoded sender with its lent areas
+--   books_of f ring lost                      the encoded sender with its lent areas
 --   Messaged, messaged, message_by, message   a message
---   Reported, reported, nak_by, nak   a loss report
---   Ran, ran, run_by, run             a run
---   ack, payload, reports            these change nothing lent
+--   Reported, reported, nak_by, nak           a loss report
+--   Ran, ran, run_by, run                     a run
+--   ack, payload, reports                     these change nothing lent
 pub mod Coincide
 pub mod Laws
 use Rattle.std.specs.Prelude.{Bool, List, ℕ}

@@ -1,7 +1,7 @@
 -- The public calls, one after the other. Document 01: "Statements over several calls, demand 3 too, take books and kept
 -- lent areas as this sender's last call left them."
 --   World           the sender, the areas that stay lent between calls, and the store
---   Call, rule_of    a public call with its arguments and its lent list; the same call in the rules
+--   Call, rule_of   a public call with its arguments and its lent list; the same call in the rules
 --   Fits, AllFit    the arguments of a call, and of a list of calls, fit their types: words and full numbers are u32
 --   after, worlds   the world after a call, and after a list of calls, refused ones included
 --   Same k w a      the call's answer, with every word of its lent list, is the answer a of the rules

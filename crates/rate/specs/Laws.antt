@@ -1,11 +1,11 @@
 -- What pacing and the layers above use of an estimate.
---   Ranged e                         the book rules for one estimation, as facts
---   rate_bound                       over 100,000 µs or more, a count in its range gives a rate in the mean's range
---   new_mean_bound                    the new mean lies in its range too
---   estimate-still                   with mean and variance 0 the mean becomes the rate, and the variance stays 0
---   estimate-ranged                  an estimate keeps the book rules
---   increment-ranged                 so does a count that stays in its range
---   inRange-ranged, ranged-in_range   the test decides the facts, both ways
+--   Ranged e                           the book rules for one estimation, as facts
+--   rate_bound                         over 100,000 µs or more, a count in its range gives a rate in the mean's range
+--   new_mean_bound                     the new mean lies in its range too
+--   estimate-still                     with mean and variance 0 the mean becomes the rate, and the variance stays 0
+--   estimate-ranged                    an estimate keeps the book rules
+--   increment-ranged                   so does a count that stays in its range
+--   in_range-ranged, ranged-in_range   the test decides the facts, both ways
 use Rattle.std.specs.Prelude.{◌≡◌, true, cond, ◌&&◌, ℕ, ◌+◌, ◌*◌, ◌/◌, ◌^◌, ◌≤◌, leb, ltb, eqb}
 use Rattle.std.proofs.Math.Bool.{and-eq-true_iff}
 use Rattle.std.proofs.Math.Nat.{div-le_of_le-mul}

@@ -1,7 +1,7 @@
 -- The reports on the sender and its lent areas. Document 01: "the reports flushed, has packets to send, buffered
 -- packets, bytes and time (back's time less front's, 0 if negative or nothing is buffered)".
 --   reports_of g   what the buffer's books say
---   reports g     the call; refusals 2 and 3
+--   reports g      the call; refusals 2 and 3
 pub mod Laws
 pub mod Stands
 use Rattle.rules_refusals.specs.Verdict.{answer}

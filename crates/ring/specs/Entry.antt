@@ -1,6 +1,6 @@
 -- A packet's entry in the lent area: six words at slot × 6. Document 01: "Book areas have sizes fixed by the capacity
 -- alone".
---   entry, words e        an entry from its words; the words of an entry, in order
+--   entry, words e         an entry from its words; the words of an entry, in order
 --   word_of xs k j         word j of slot k
 --   read_e xs k            the entry in slot k
 --   write_from xs i j ws   the area with the words ws written at i + j, i + (j + 1) and so on

@@ -1,6 +1,6 @@
 -- The ring: which slot holds which packet. Document 01: "VecDeque .. become[s] a ring .. over lent numbers."
---   wrap_of n s              the slot s of n, which may have wrapped once
---   slot_of r i              the slot of packet i from the front
+--   wrap_of n s             the slot s of n, which may have wrapped once
+--   slot_of r i             the slot of packet i from the front
 --   tab k n f               the n values f k, f (k + 1) and so on
 --   packets r xs            the packets from the front
 --   pushed r, removed k r   one more at the back; k fewer at the front

@@ -1,5 +1,5 @@
 -- What the layers above use of a round-trip time's range.
---   inRange-ranged, ranged-in_range   the test decides the facts, both ways
+--   in_range-ranged, ranged-in_range   the test decides the facts, both ways
 use Rattle.std.specs.Prelude.{◌≡◌, true, leb}
 use Rattle.std.proofs.Math.Bool.{and-eq-true_iff}
 use Rattle.std.proofs.Common.{leb-true, le-leb}

@@ -1,9 +1,9 @@
 -- Document 01, "ACK". "First to next unsent, inclusive. RTT is taken over; then the full number is tested (expected
 -- starts at 1; after n it is n + 1, without wrapping). Loss entries below the ACK go (`recovered`), then packets below
 -- it (`received`). Both counts and the full number are returned."
---   ack_of s n                how far the ACK's number lies after the front: the number of packets acknowledged
+--   ack_of s n               how far the ACK's number lies after the front: the number of packets acknowledged
 --   given o a                the value in o, or a where there is none
---   take_rtt rtt s            the RTT taken over, where the ACK has one
+--   take_rtt rtt s           the RTT taken over, where the ACK has one
 --   expect full e            the expected full number after an accepted ACK
 --   acknowledge c d full s   d packets acknowledged
 --   recovered, received      the two counts

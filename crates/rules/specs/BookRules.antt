@@ -1,9 +1,9 @@
 -- Document 01, "Book rules", in its order. A call is refused with 3, BadState, exactly where `kept` is false.
---   every ts                         whether all of the tests hold
---   all t ps                         whether t holds of every packet of ps
---   ascends lo hi xs                 whether xs ascends without repeats, from lo on and below hi
+--   every ts                               whether all of the tests hold
+--   all t ps                               whether t holds of every packet of ps
+--   ascends lo hi xs                       whether xs ascends without repeats, from lo on and below hi
 --   sent_kept, unsent_kept, held_is_kept   the rules of a sent packet, of an unsent one, of a flushed one
---   kept c s                         the book rules
+--   kept c s                               the book rules
 -- Three rules hold of any `Sender`: packet numbers are consecutive; one past the back is the number that the next
 -- packet gets; and with none buffered next unsent is that number, as it lies between the front and one past the back.
 -- An unsent packet has transmit count 0, and resend time 0 means none. Timers are apart: rules_timers.

@@ -1,14 +1,14 @@
 -- The calls, one after the other. Document 01, "Refusal numbers": "All stays as before; 11 alone keeps a new RTT."
---   Call                   a call with its arguments
---   Said, Answer           what an accepted call answers; the verdict, that answer and the sender afterwards
---   verdict_of              whether a call is accepted, or why it is refused
---   said_by, after          what an accepted call answers (pushed_by: a message), and the sender after it
---   left k s r, with_rtt    the sender after a refusal; the sender with the RTT of an ACK
---   answer c k s           a call's answer (answer_by: given the verdict)
---   calls, answers         the sender after a list of calls, refused ones included; all of their answers
---   store_after, stores     the store after one call, and after a list: only an accepted message writes (store_by: given
---                          the verdict)
---   records a, units k a   the records of an answer; the units that an accepted run got (records_of, units_by)
+--   Call                     a call with its arguments
+--   Said, Answer             what an accepted call answers; the verdict, that answer and the sender afterwards
+--   verdict_of               whether a call is accepted, or why it is refused
+--   said_by, after           what an accepted call answers (pushed_by: a message), and the sender after it
+--   left k s r, with_rtt     the sender after a refusal; the sender with the RTT of an ACK
+--   answer c k s             a call's answer (answer_by: given the verdict)
+--   calls, answers           the sender after a list of calls, refused ones included; all of their answers
+--   store_after, stores      the store after one call, and after a list: only an accepted message writes (store_by: given
+--                            the verdict)
+--   records a, units k a     the records of an answer; the units that an accepted run got (records_of, units_by)
 --   all_records, all_units   those of a list of calls
 use Rattle.std.specs.Prelude.{Bool, cond, List, [], ◌++◌, ◌∷◌, ℕ, ◌+◌, eqb, length}
 use Rattle.std.proofs.Math.Option.{Option}

@@ -1,20 +1,20 @@
 -- Document 01, "Loss words" (the draft, Appendix A), and row 12 of "Refusal numbers".
---   Item, Words         one number, or a range by its two ends; a report's items, or the index of the first bad item's
---                       first word
---   before, is_range     an item put before the others; whether two words are a range
---   parse, words_of      the items of words, and of a whole report
---   items_of w           its items, none where one is bad
---   LossKind, kind_of    "A number is Added if buffered and sent; else Ignored if its distance from next unsent is below
---                       2^30; else Dropped." (kind_by: by the two tests)
---   reach s m           how many consecutive numbers from m on are of m's kind (reach_by: given the kind)
---   LossRun, end_of      a run of one kind and consecutive numbers, and its exclusive end
---   item_runs, stretch   an item's runs, found from the ends of its range: there are at most three (crate
---                       rules_theorems, proofs/Losses.antt)
---   runs_of s is         the runs of all items, in order
---   is_same_kind, meets     whether one run continues another
---   joined, glue        the answer: runs that continue each other are joined
---   report              the loss list after a report: "Added numbers enter the list once." (entered, enter_by, enter_all:
---                       the numbers of a run, of a run by its kind, of all runs)
+--   Item, Words           one number, or a range by its two ends; a report's items, or the index of the first bad item's
+--                         first word
+--   before, is_range      an item put before the others; whether two words are a range
+--   parse, words_of       the items of words, and of a whole report
+--   items_of w            its items, none where one is bad
+--   LossKind, kind_of     "A number is Added if buffered and sent; else Ignored if its distance from next unsent is below
+--                         2^30; else Dropped." (kind_by: by the two tests)
+--   reach s m             how many consecutive numbers from m on are of m's kind (reach_by: given the kind)
+--   LossRun, end_of       a run of one kind and consecutive numbers, and its exclusive end
+--   item_runs, stretch    an item's runs, found from the ends of its range: there are at most three (crate
+--                         rules_theorems, proofs/Losses.antt)
+--   runs_of s is          the runs of all items, in order
+--   is_same_kind, meets   whether one run continues another
+--   joined, glue          the answer: runs that continue each other are joined
+--   report                the loss list after a report: "Added numbers enter the list once." (entered, enter_by, enter_all:
+--                         the numbers of a run, of a run by its kind, of all runs)
 use Rattle.std.specs.Prelude.{Bool, true, false, ◌&&◌, cond, List, [], ◌∷◌, ◌++◌, ℕ, zero, suc, ◌+◌, ◌-◌, ◌^◌, min, ltb, eqb, length}
 use Rattle.rules.specs.Numbers.{wire, distance}
 use Rattle.rules.specs.Sender.{Sender, sent_of, insert, put}

@@ -1,15 +1,15 @@
 -- Document 01, "Message" and "Byte count". How a message is split is defined in rules_packets, pacing in rules_pacing.
 --   packet_of, packets_of   "It becomes max(1, ceil(length / size)) packets": packet k, and all of them
---   packets_from           n of them, from packet k on
---   make_room, gone        "Pushing into a full buffer first removes the front packet, from the loss list too.": the
---                         sender afterwards, and the packet removed
---   append                one packet pushed
+--   packets_from            n of them, from packet k on
+--   make_room, gone         "Pushing into a full buffer first removes the front packet, from the loss list too.": the
+--                           sender afterwards, and the packet removed
+--   append                  one packet pushed
 --   push_all, gone_by       all packets pushed, and the packets removed by that
---   begin                 the counter "goes up once per message"; pacing "takes the packets made and their payload
---                         bytes"; a flushed payload is no longer held
---   push                  the sender after a message
---   period_of              "any new period"
---   written, stored       the store after a message: "Only pushed payload bytes change."
+--   begin                   the counter "goes up once per message"; pacing "takes the packets made and their payload
+--                           bytes"; a flushed payload is no longer held
+--   push                    the sender after a message
+--   period_of               "any new period"
+--   written, stored         the store after a message: "Only pushed payload bytes change."
 use Rattle.std.specs.Prelude.{cond, List, [], ◌∷◌, ◌++◌, ℕ, zero, suc, ◌+◌, ◌-◌, ◌%◌, ◌^◌, leb, length, take, drop}
 use Rattle.std.proofs.Math.Option.{Option, none, some}
 use Rattle.std.proofs.Math.Seq.{paste}

@@ -1,8 +1,8 @@
 -- Document 01, "Action record" and "Header".
 --   Kind, code, is_send   "kind (1 Send, 2 resend by time, 3 resend by loss, 4 Drop, 5 wait input, 6 wait ACK)"; 1 for the sends
---   Action, encode       a record, and its "24 bytes, little-endian": each field with its lowest byte first (crate rules_numbers, Bytes)
---   sends rs             how many of the records are sends
---   again p              "retransmitted": whether the packet was sent before
+--   Action, encode        a record, and its "24 bytes, little-endian": each field with its lowest byte first (crate rules_numbers, Bytes)
+--   sends rs              how many of the records are sends
+--   again p               "retransmitted": whether the packet was sent before
 --   send_record ..        the records of the rules; "Unused fields are 0"
 --   header_of c n p       the 16 header bytes before the payload of p, with number n (crate encapsulate)
 use Rattle.std.specs.Prelude.{Bool, true, false, List, [], ◌∷◌, ◌++◌, ℕ, zero, suc, ◌+◌, ◌*◌}

@@ -1,16 +1,16 @@
 -- Document 01, "Run": "(now, budget p, draining) .. While budget remains, the first that applies". The rules keep
 -- their numbers.
---   base, wait                        "C = mean + 4 × variance + 20,000"; the time from now to the resend, given the
---                                     sendings before
---   stamped, sent                     a packet after a sending; the buffer with that packet
---   earliest, or_here                  rule 3's choice; the number found, or else this one
---   Rule, first, rule                 which of rules 2 to 7 is the first that applies
---   Turn, Result, join                what a turn does, what a run does, and a turn followed by the rest of the run
---   is_late, late                      rule 1: whether a packet is late, and how many it drops: none where the front is
---                                     not late
---   late_from, dropped                 how many packets go with the late ones before them; the drop
+--   base, wait                              "C = mean + 4 × variance + 20,000"; the time from now to the resend, given the
+--                                           sendings before
+--   stamped, sent                           a packet after a sending; the buffer with that packet
+--   earliest, or_here                       rule 3's choice; the number found, or else this one
+--   Rule, first, rule                       which of rules 2 to 7 is the first that applies
+--   Turn, Result, join                      what a turn does, what a run does, and a turn followed by the rest of the run
+--   is_late, late                           rule 1: whether a packet is late, and how many it drops: none where the front is
+--                                           not late
+--   late_from, dropped                      how many packets go with the late ones before them; the drop
 --   send, send_next, extra, flushed, obey   what rules 2 to 7 do
---   others, turn_by, turn, loop, run   one turn, the turns while budget remains, the run
+--   others, turn_by, turn, loop, run        one turn, the turns while budget remains, the run
 use Rattle.std.specs.Prelude.{Bool, true, false, ◌&&◌, cond, List, [], ◌∷◌, ◌++◌, ℕ, zero, suc, ◌+◌, ◌-◌, ◌*◌, ◌%◌, ◌^◌, min, ltb, eqb, length, set, take}
 use Rattle.std.proofs.Math.Option.{Option, none, some}
 use Rattle.rules_numbers.specs.Limits.{transmit_most}

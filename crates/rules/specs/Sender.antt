@@ -4,13 +4,13 @@
 --   Sender            everything a sender keeps
 --   fresh c mode      a new sender, before any call
 --   end s             one past the back: the number that the next packet gets
---   sent_of s          how many buffered packets are sent: next unsent less the front
+--   sent_of s         how many buffered packets are sent: next unsent less the front
 --   packet s n        the packet with number n
---   push_of s n        the index of packet n among all packets ever pushed, from 0
+--   push_of s n       the index of packet n among all packets ever pushed, from 0
 --   from n, below n   the loss entries from n on; how many entries are below n
 --   insert n          the loss list with n entered, once
 --   put, remove       changes that several rules share
---   wire_sizes c ps    "wire bytes .. (payload plus overhead)", summed over ps
+--   wire_sizes c ps   "wire bytes .. (payload plus overhead)", summed over ps
 use Rattle.std.specs.Prelude.{List, [], ◌∷◌, cond, ℕ, ◌+◌, ◌-◌, max, suc, ltb, eqb, length, get_or, drop}
 use Rattle.std.proofs.Math.Option.{Option, none}
 use Rattle.rules_packets.specs.declared.Place.{Place}

@@ -1,13 +1,13 @@
 -- Document 01, "Numbers and their ends": "Settings: first sequence number below 2^31; packet size 1 to 1,456; buffer
 -- size 0 to 8,192; flow window 0 to 65,535; TSBPD latency 0 to 65,535,000 µs; wire overhead 0 to 128; socket id any
 -- u32."
---   Settings       the seven settings
---   inRange c      whether each is in its range; a socket id always is
---   capacity c     "Capacity is the buffer size, or 1 where that is 0."
+--   Settings        the seven settings
+--   in_range c      whether each is in its range; a socket id always is
+--   capacity c      "Capacity is the buffer size, or 1 where that is 0."
 --   store_size c    "The store needs capacity × packet size bytes"
 --   place_of c k    "the k-th packet ever pushed (from 0) lies at (k mod capacity) × packet size"
 --   late_window c   "Window = max(latency + floor(latency / 4), 1,000,000)": a packet older than that is late (this is
---                  not the flow window)
+--                   not the flow window)
 use Rattle.std.specs.Prelude.{Bool, ◌&&◌, ℕ, ◌+◌, ◌*◌, ◌/◌, ◌%◌, ◌^◌, max, ltb, leb}
 use Rattle.rules_numbers.specs.Modular.{seqs}
 use Rattle.rules_numbers.specs.Limits.{size_most}

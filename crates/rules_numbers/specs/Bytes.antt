@@ -1,7 +1,7 @@
 -- Numbers as bytes, over how many bytes there are: document 01, "Action record": "24 bytes, little-endian"; "Header": "big-endian". A number
 -- that needs more bytes is cut to its low ones.
---   little w n      the w bytes of n, the lowest first
---   big w n         the same bytes, the highest first
+--   little w n       the w bytes of n, the lowest first
+--   big w n          the same bytes, the highest first
 --   from_little bs   the number that bytes stand for, the lowest first
 --   from_big bs      the same, the highest first
 -- What holds of them over every width stands in crate octets, Laws.

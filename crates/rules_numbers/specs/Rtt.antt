@@ -1,6 +1,6 @@
 -- Document 01, "Numbers and their ends": "RTT mean and variance: 0 to 100,000,000 µs each; at start 100,000 and 50,000."
 --   start      the round-trip time at the start
---   inRange r  mean and variance are within their ranges
+--   in_range r mean and variance are within their ranges
 --   Ranged r   the same as facts, for a proof
 pub mod Examples
 use Rattle.std.specs.Prelude.{Bool, ◌&&◌, ◌≤◌, leb}

@@ -1,9 +1,9 @@
 -- What pacing keeps, and pacing at the start. Document 01, "Book rules" and "Pacing".
 --   next_in_range next   whether next is in range
---   kept s             whether s keeps the book rules
---   control, none      the kept state from its parts; an estimation with nothing counted
---   fresh mode         pacing at the start
---   new mode           the answer of the call: BadSetting where a rate or the overhead is out of range
+--   kept s               whether s keeps the book rules
+--   control, none        the kept state from its parts; an estimation with nothing counted
+--   fresh mode           pacing at the start
+--   new mode             the answer of the call: BadSetting where a rate or the overhead is out of range
 use Rattle.std.specs.Prelude.{Bool, true, cond, ◌&&◌, ◌^◌, ltb}
 use Rattle.rules_refusals.specs.declared.Refusal.TheVariants.{BadSetting}
 use Rattle.rules_pacing.specs.declared.LiveBandwidthMode.{LiveBandwidthMode}

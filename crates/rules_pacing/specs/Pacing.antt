@@ -1,13 +1,13 @@
 -- What an input does. Document 01, "Pacing", and row 6 of "Refusal numbers".
---   due next now                    whether an estimate is due
---   since next now count            the count since the last estimate
+--   due next now                     whether an estimate is due
+--   since next now count             the count since the last estimate
 --   count_full s now packets bytes   whether this input would pass the most that may be counted
---   estimated s next now            the estimates due at next, made
---   moved s now                     next is set by the first input; later, estimates that are due are made (moved_at)
---   added s packets bytes           this input added to the counts
---   after s now packets bytes       what is kept after an accepted input
+--   estimated s next now             the estimates due at next, made
+--   moved s now                      next is set by the first input; later, estimates that are due are made (moved_at)
+--   added s packets bytes            this input added to the counts
+--   after s now packets bytes        what is kept after an accepted input
 --   snd_period s                     the period given by the kept means
---   input s now packets bytes       the answer to an accepted input
+--   input s now packets bytes        the answer to an accepted input
 --   on_input s now packets bytes     the answer to any input
 use Rattle.std.specs.Prelude.{Bool, false, cond, not, ◌||◌, ℕ, ◌+◌, leb}
 use Rattle.rules_numbers.specs.Limits.{time_limit}

@@ -1,9 +1,9 @@
 -- The period between two packets, from the rates. Document 01, "Pacing": "measured, byte rate and packet rate are the
 -- new means."
---   with_overhead rate overhead     the rate plus so many percent
+--   with_overhead rate overhead    the rate plus so many percent
 --   allowed mode measured          how many bytes per second may be sent
 --   period allowed bytes packets   the period in microseconds, given bytes and packets per second
---   mode_in_range mode               whether its rates and overhead are in range
+--   mode_in_range mode             whether its rates and overhead are in range
 use Rattle.std.specs.Prelude.{Bool, true, cond, ◌&&◌, ◌||◌, ℕ, ◌+◌, ◌*◌, ◌/◌, ◌^◌, min, max, leb, eqb}
 use Rattle.rules_pacing.specs.declared.LiveBandwidthMode.{LiveBandwidthMode}
 use Rattle.rules_pacing.specs.declared.LiveBandwidthMode.TheVariants.{Input, Estimated, Max, Unlimited}

@@ -1,13 +1,13 @@
 -- How much comes in per second, estimated for packets and for bytes in the same way. Document 01, "Pacing".
---   elapsed now next      the time that an estimate due at next covers
---   rate count time       what came in during that time, per second
---   still e               whether mean and variance are 0
---   new_mean e rate        the mean after this rate
---   apart a b             |a − b|
---   estimate time e       the estimate after that time; the count starts again at 0
---   increment e n         n more counted
---   passes count n        whether n more would pass the most that may be counted
---   inRange e             whether an estimation keeps its book rules
+--   elapsed now next        the time that an estimate due at next covers
+--   rate count time         what came in during that time, per second
+--   still e                 whether mean and variance are 0
+--   new_mean e rate         the mean after this rate
+--   apart a b               |a − b|
+--   estimate time e         the estimate after that time; the count starts again at 0
+--   increment e n           n more counted
+--   passes count n          whether n more would pass the most that may be counted
+--   in_range e              whether an estimation keeps its book rules
 --   count_most, mean_most   2^38 and 2^42
 pub mod Examples
 use Rattle.std.specs.Prelude.{Bool, cond, ◌&&◌, ℕ, ◌+◌, ◌-◌, ◌*◌, ◌/◌, ◌^◌, min, max, leb, ltb, eqb}

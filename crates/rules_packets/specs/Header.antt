@@ -6,10 +6,10 @@
 --    |                     stamp                            |
 --    |                   socket id                          |
 --   place_bits p          "10 first, 00 middle, 01 last, 11 only one"
---   bit r                a flag as a bit
---   second p r m         the second word, with the low 26 bits of the message number
---   header p r n m t id  the sixteen bytes, each word with its highest byte first (crate rules_numbers, Bytes), with the low 31 bits of the number
---   stamp t              "a packet's stamp is the low 32 bits of its message's time"
+--   bit r                 a flag as a bit
+--   second p r m          the second word, with the low 26 bits of the message number
+--   header p r n m t id   the sixteen bytes, each word with its highest byte first (crate rules_numbers, Bytes), with the low 31 bits of the number
+--   stamp t               "a packet's stamp is the low 32 bits of its message's time"
 use Rattle.std.specs.Prelude.{ℕ, ◌+◌, ◌*◌, ◌%◌, ◌^◌, Bool, true, false, List, ◌++◌}
 use Rattle.rules_numbers.specs.Bytes.{big}
 use Rattle.rules_packets.specs.declared.Place.{Place}

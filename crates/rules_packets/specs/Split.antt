@@ -1,12 +1,12 @@
 -- How a message becomes packets. Document 01, "Message": "It becomes max(1, ceil(length / size)) packets, all full but
 -- the last. Place bits: 10 first, 00 middle, 01 last, 11 only one."
---   count size len       how many packets; ceil(a / b) is (a + (b − 1)) / b
+--   count size len        how many packets; ceil(a / b) is (a + (b − 1)) / b
 --   place_of n k          the place of packet k, from 0, of n
---   start_of, length_of    where the payload of packet k starts in the message, and its length
+--   start_of, length_of   where the payload of packet k starts in the message, and its length
 --   piece_of size len k   packet k
---   nth size len k       packet k, or none where the message has fewer
---   judge size len       refusals 1 and 5: "packet size 1 to 1,456"; "message over 1,048,576 bytes"
---   split, piece         the calls: how many packets, and packet k
+--   nth size len k        packet k, or none where the message has fewer
+--   judge size len        refusals 1 and 5: "packet size 1 to 1,456"; "message over 1,048,576 bytes"
+--   split, piece          the calls: how many packets, and packet k
 use Rattle.std.specs.Prelude.{cond, ℕ, ◌+◌, ◌-◌, ◌*◌, ◌/◌, min, max, ltb, leb, eqb}
 use Rattle.rules_numbers.specs.Limits.{size_most, length_most}
 use Rattle.rules_refusals.specs.declared.Refusal.TheVariants.{BadSetting, TooLong}

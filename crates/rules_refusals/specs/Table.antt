@@ -1,6 +1,6 @@
 -- Document 01, "Refusal numbers": the number of each refusal, and what it returns, "with only what the table names".
---   number_of r     its number, from the table's first column
---   values_of r     the values returned with it: 10 "returns all three", 11 "returns both", 12 "returns the word's
+--   number_of r    its number, from the table's first column
+--   values_of r    the values returned with it: 10 "returns all three", 11 "returns both", 12 "returns the word's
 --                  index"
 --   Numbered r n   n is the number of r, from 1 to 14
 use Rattle.std.specs.Prelude.{◌≡◌, List, [], ◌∷◌, ℕ, ◌≤◌}

@@ -1,6 +1,6 @@
 -- The order of refusals. Document 01, "Refusal numbers": "The lowest that applies is given".
---   when t r v        r where the test t holds, else v: the tests of a call are a chain of these, in order
---   answer f v a      the call's answer: f of the refusal, or a where the call is accepted
+--   when t r v         r where the test t holds, else v: the tests of a call are a chain of these, in order
+--   answer f v a       the call's answer: f of the refusal, or a where the call is accepted
 --   verdict_number v   0 where the call is accepted, else the refusal's number
 use Rattle.std.specs.Prelude.{Bool, true, false, ℕ}
 use Rattle.rules_refusals.specs.Table.{number_of}

@@ -1,8 +1,8 @@
 -- What is known of an accepted call, and of an ACK refused as stale: none of the earlier tests holds.
---   Pushable, Ackable, Runnable   what is known of an accepted message, ACK, run
+--   Pushable, Ackable, Runnable           what is known of an accepted message, ACK, run
 --   message-taken, ack-taken, run-taken   it holds
---   ack-stale                     an ACK refused with 11: the books keep the rules, and its RTT is in range
---   not-kept, when-past           if the books break a rule every call answers 3; a refusal after the first of a chain
+--   ack-stale                             an ACK refused with 11: the books keep the rules, and its RTT is in range
+--   not-kept, when-past                   if the books break a rule every call answers 3; a refusal after the first of a chain
 use mathlib.Core.Path.{◌≡◌, ap, refl}
 use mathlib.Core.Bool.{Bool, ◌||◌, false, not, true, true≢false}
 use mathlib.Core.Option.{Option}

@@ -1,12 +1,12 @@
 -- What the theorems say of a sender, in the words of the demands; the theorems are in proofs/Theorems.antt. This file
 -- is demand 3. The others are in Demands/: Drops (the late drop), Once (no packet twice), Times (the rollover), Losses
 -- (the answer to a report), Store (the payloads).
---   Given k, AllGiven ks     the arguments of a call fit their types: an ACK's full number is a u32
---   On n xs                  n is on the loss list
---   Within p rs              at most p sends, or p + 1 with the last record a send whose number is divisible by 16
---   Quiet                    nothing to send: the exact case of demand 3
---   SentIn n rs              the records include a resend of number n by loss
---   Spares, Spared n ks s    no report that comes while n is on the list adds a smaller number to it
+--   Given k, AllGiven ks      the arguments of a call fit their types: an ACK's full number is a u32
+--   On n xs                   n is on the loss list
+--   Within p rs               at most p sends, or p + 1 with the last record a send whose number is divisible by 16
+--   Quiet                     nothing to send: the exact case of demand 3
+--   SentIn n rs               the records include a resend of number n by loss
+--   Spares, Spared n ks s     no report that comes while n is on the list adds a smaller number to it
 --   after_drop, DemandThree   the sender after the late drop; demand 3 as a whole
 pub mod Drops
 pub mod Once

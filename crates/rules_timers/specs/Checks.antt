@@ -1,9 +1,9 @@
 -- Checking a timer. Document 01, "Timers": "The idle timer moves on even where EXP count 16 or less keeps it silent."
---   timer_of, with_timer     the timer that a check concerns; the timers with that one replaced
---   check w ts now         checks one timer and moves no other: check_snd, check_full_ack, check_nak, check_statistics
---   heard e often          whether the idle timer is reported: it has expired, and EXP often enough
---   idle_after ts exp now   EXP has expired and become exp: the idle timer is checked and moves on, whatever the count
---   expired, idle          a choice by whether a timer has expired; nothing happens unless EXP has
+--   timer_of, with_timer      the timer that a check concerns; the timers with that one replaced
+--   check w ts now            checks one timer and moves no other: check_snd, check_full_ack, check_nak, check_statistics
+--   heard e often             whether the idle timer is reported: it has expired, and EXP often enough
+--   idle_after ts exp now     EXP has expired and become exp: the idle timer is checked and moves on, whatever the count
+--   expired, idle             a choice by whether a timer has expired; nothing happens unless EXP has
 --   check_peer_idle_timeout   the call
 pub mod Examples
 use Rattle.std.specs.Prelude.{Bool, false, cond, ℕ, ◌+◌, min, ltb}

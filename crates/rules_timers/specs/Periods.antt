@@ -1,6 +1,6 @@
 -- The periods that follow from an RTT. Document 01, "Timers": "RTT periods .. are as `calculate_periods` ..; EXP is
 -- held at 10^15". They follow the Rust's code, not its comments; its durations are nanoseconds, so halves count.
---   ns n                   n microseconds in nanoseconds
+--   ns n                    n microseconds in nanoseconds
 --   nak_period r            max((mean + 4 × variance) / 2, 20 ms)
 --   exp_period count r      max(count × (4 × mean + variance + 10 ms), count × 300 ms), held at 10^15
 --   calculate_periods n r   all three: ACK is always 10 ms

@@ -3,12 +3,12 @@
 -- nothing before origin + period, and from then on floor(elapsed / period), held at 2^32 − 1, and the origin moves by
 -- that many periods." The origin is the Rust's `last`. Each call tests its refusals in the order of their numbers.
 --   instant_limit, longest, shortest_new, most   2^58 ns, 10^15 ns, 1,000 ns, 2^32 − 1
---   timer p origin   a timer from its two fields
---   kept t           book rules: "timer origins below 2^58, periods at most 10^15"
---   started now p    a new timer
+--   timer p origin                               a timer from its two fields
+--   kept t                                       book rules: "timer origins below 2^58, periods at most 10^15"
+--   started now p                                a new timer
 --   made now p, period_of t, next_instant t, reset t now, set_period t p, check_expired t now   the calls
---   periods t now    how many periods have elapsed, for a timer whose period is not 0
---   ticked t now     what a check answers, and the timer after it
+--   periods t now                                how many periods have elapsed, for a timer whose period is not 0
+--   ticked t now                                 what a check answers, and the timer after it
 pub mod Examples
 use Rattle.std.specs.Prelude.{Bool, cond, not, ◌&&◌, ℕ, ◌+◌, ◌-◌, ◌*◌, ◌/◌, ◌^◌, min, max, ltb, leb, eqb}
 use Rattle.rules_refusals.specs.declared.Refusal.TheVariants.{BadSetting, BadState, BadTime}

@@ -1,10 +1,10 @@
 -- All timers of a connection: document 01, "What the hub takes from the crate": "every timer in `Timers`"; the calls
 -- that make and set them. The checks are in Checks, the next wake-up in Wake, the RTT periods in Periods.
---   kept_all ts         the book rules of the six timers, and an EXP count of at least 1
---   timers ..          all timers, from their parts
+--   kept_all ts                                the book rules of the six timers, and an EXP count of at least 1
+--   timers ..                                  all timers, from their parts
 --   judge, judge_new, judge_period, judge_rtt the refusals of the calls, in the order of their numbers
---   begun, new         the timers at the start; the call
---   with_periods ts p   new periods, with no origin moved
+--   begun, new                                 the timers at the start; the call
+--   with_periods ts p                          new periods, with no origin moved
 --   update_snd_period, update_rtt, reset_exp   the calls that set
 pub mod Examples
 use Rattle.std.specs.Prelude.{Bool, not, ◌&&◌, ◌||◌, ℕ, ltb, leb}

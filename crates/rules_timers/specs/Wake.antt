@@ -1,9 +1,9 @@
 -- The latest time by which the host must wake. Document 01, "Timers": "the next wake-up [is] as .. `next_timer`".
---   sooner on t i        the next instant of t, if it counts and is sooner than i
---   message_or m i        the next message's time, if it is known and sooner than i
---   wake ..              the earliest of these, but not before now; idle and statistics timers don't count
+--   sooner on t i          the next instant of t, if it counts and is sooner than i
+--   message_or m i         the next message's time, if it is known and sooner than i
+--   wake ..                the earliest of these, but not before now; idle and statistics timers don't count
 --   too_late, judge_next   the refusals, in the order of their numbers; the next message's time has the same limit as now
---   next_timer ..         the call
+--   next_timer ..          the call
 use Rattle.std.specs.Prelude.{Bool, true, false, not, ◌||◌, ℕ, ◌+◌, min, max, ltb, leb}
 use Rattle.rules_refusals.specs.declared.Refusal.TheVariants.{BadState, BadTime}
 use Rattle.rules_refusals.specs.declared.Verdict.{Verdict}

@@ -3,7 +3,7 @@
 --   room_for p n         the bytes that a run with budget p needs, with n packets buffered
 --   run_verdict          the refusals
 --   Runs, runs, ran_by   the answer, and every lent element afterwards; those of an accepted run
---   run                 the call
+--   run                  the call
 pub mod Laws
 pub mod Stands
 use Rattle.std.specs.Prelude.{Bool, List, ℕ, ◌+◌, ◌*◌, ◌^◌, min, ltb, leb, length}

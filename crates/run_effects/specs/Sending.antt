@@ -1,18 +1,18 @@
 -- What each rule of a run does to the lent areas. Document 01, "Run", rules 1 to 7. Packets (by `view`) and records are
 -- those of the rules; a packet is given by its index i from the front.
---   base_of, stamped                      "C = mean + 4 × variance + 20,000"; an entry after a sending
---   packet_at, number_at                   packet i, and its number
---   sent_words                            the ring's words with packet i sent
---   Turned, idle                         what one turn does: the state after it, its records, whether the run ends; a
---                                        turn that does nothing
+--   base_of, stamped                        "C = mean + 4 × variance + 20,000"; an entry after a sending
+--   packet_at, number_at                    packet i, and its number
+--   sent_words                              the ring's words with packet i sent
+--   Turned, idle                            what one turn does: the state after it, its records, whether the run ends; a
+--                                           turn that does nothing
 --   dropped, loss_turn, due_turn, window_turn, unsent_turn, flush_turn, input_turn   rules 1 to 7
 --   next_turn, is_sixteenth, sixteen_turn   rule 5's two sendings, and the test of the second
---   sent_as                               packet i is sent
---   nearest, popped                      the number on the loss list nearest the front, its last; the list without it
---   holding                              the books with the flushed packet
---   written                              records written to the list, "24 bytes" each: "Bytes after the last record
---                                        stay."
---   Acted, Acts                          the code did what a turn does
+--   sent_as                                 packet i is sent
+--   nearest, popped                         the number on the loss list nearest the front, its last; the list without it
+--   holding                                 the books with the flushed packet
+--   written                                 records written to the list, "24 bytes" each: "Bytes after the last record
+--                                           stay."
+--   Acted, Acts                             the code did what a turn does
 pub mod Laws
 pub mod Rules
 pub mod Stands

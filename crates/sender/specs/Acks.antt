@@ -1,8 +1,8 @@
 -- An ACK on the sender and its lent areas. Document 01, "ACK", and refusals 2, 3 and 7 to 11: "All stays as before; 11
 -- alone keeps a new RTT."
 --   ack_verdict g n rtt   refusals 2, 3, 7 and 8; the crate buffer_ack tests the others
---   acknowledged s a     the sender with the books after an ACK
---   ack                  the call. The lent areas are only read
+--   acknowledged s a      the sender with the books after an ACK
+--   ack                   the call. The lent areas are only read
 pub mod Laws
 pub mod Stands
 use Rattle.std.specs.Prelude.{ℕ, ◌^◌, leb}

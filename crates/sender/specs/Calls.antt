@@ -1,16 +1,16 @@
 -- The calls on the sender and its lent areas: the answer, and every lent element afterwards. Document 01, "Refusal
 -- numbers": "The lowest that applies is given, with only what the table names. All stays as before; 11 alone keeps a
 -- new RTT."
---   sender_of c b p                 a sender from its parts
---   made c mode                    a request for a new sender
---   count_is_full s now n            row 6, for a message of n bytes
---   then v w                       the tests w after the tests v
+--   sender_of c b p                   a sender from its parts
+--   made c mode                       a request for a new sender
+--   count_is_full s now n             row 6, for a message of n bytes
+--   then v w                          the tests w after the tests v
 --   short_for, judge_with_store g n   row 2, and rows 2 and 3, with a store of n bytes
---   input_verdict, message_verdict   refusals 4 to 6, and 2 to 6
---   finished c p paced             the answer to an accepted message, from what was pushed and what pacing answered
---                                  (messaged_by, pushed_of)
---   Messages, area                 the answer to a message, and the lent areas afterwards
---   done, done_by, message          an accepted message; the call
+--   input_verdict, message_verdict    refusals 4 to 6, and 2 to 6
+--   finished c p paced                the answer to an accepted message, from what was pushed and what pacing answered
+--                                     (messaged_by, pushed_of)
+--   Messages, area                    the answer to a message, and the lent areas afterwards
+--   done, done_by, message            an accepted message; the call
 pub mod Laws
 pub mod Stands
 use Rattle.std.specs.Prelude.{Bool, ◌||◌, List, ℕ, ◌+◌, ◌*◌, ◌^◌, ltb, leb, length}

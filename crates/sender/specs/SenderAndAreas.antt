@@ -1,13 +1,13 @@
 -- The sender with its lent areas, and refusals 2 and 3. Document 01, "Refusal numbers": row 2, BadStore, "a lent area
 -- is too short"; row 3, BadState, "the books break a rule below".
---   Books, books         the sender, the ring's words, the loss list's words
+--   Books, books           the sender, the ring's words, the loss list's words
 --   state_of, rules_of g   the buffer's books with their areas; the settings, as in the rules
---   areas_short c n m     n words are too few for the ring, or m for the loss list; false if the settings are out of
---                        range, as the books are then at fault
---   store_short c n       n bytes are too few for the store
---   kept g               the book rules
---   judge short g        the two refusals
---   judge_areas g         those of a call that is lent only the ring and the loss list
+--   areas_short c n m      n words are too few for the ring, or m for the loss list; false if the settings are out of
+--                          range, as the books are then at fault
+--   store_short c n        n bytes are too few for the store
+--   kept g                 the book rules
+--   judge short g          the two refusals
+--   judge_areas g          those of a call that is lent only the ring and the loss list
 pub mod Laws
 pub mod Stands
 use Rattle.std.specs.Prelude.{Bool, not, ◌&&◌, ◌||◌, List, ℕ, ◌*◌, ltb, length}

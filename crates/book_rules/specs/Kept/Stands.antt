@@ -1,6 +1,6 @@
 -- The check of the books agrees with the rules, both ways, so refusal 3, BadState, is exact.
---   held_of f                  the flushed packet, as in the rules
---   seen_as p st               the sender that the books represent, with pacing p; its numbers count on from the front's
+--   held_of f                 the flushed packet, as in the rules
+--   seen_as p st              the sender that the books represent, with pacing p; its numbers count on from the front's
 --   kept-stands, kept_rules   books that keep the rules represent that sender, and it keeps the rules if pacing does
 --   kept-ready                such books are ready
 --   ready-kept                books that represent any sender that keeps the rules keep them

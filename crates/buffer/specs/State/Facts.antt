@@ -1,10 +1,10 @@
 -- What is known of the numbers of books that represent a sender which keeps the book rules: with these bounds the code
 -- doesn't overflow, or read outside an area.
---   Ranged c            the settings are in their ranges
---   Facts c st          the bounds of the kept numbers and the areas
---   Entered c e         the bounds of an entry
---   Readable c r ring   a ring whose entries have these bounds
---   range_facts         settings that pass the test are in their ranges
+--   Ranged c                                      the settings are in their ranges
+--   Facts c st                                    the bounds of the kept numbers and the areas
+--   Entered c e                                   the bounds of an entry
+--   Readable c r ring                             a ring whose entries have these bounds
+--   range_facts                                   settings that pass the test are in their ranges
 --   stands_facts, stands-readable, stands-entry   these bounds hold of such books
 --   stands-sent, stands-unsent, stands-covers
 --                       so do the rules of sent and unsent packets, and the byte count is not below the wire sizes

@@ -1,9 +1,9 @@
 -- The buffered packets as a list, after each operation on the ring.
---   packets-length, packets-at   how many there are, and packet i
---   sizes_none, sizes_more       the wire sizes, packet by packet
+--   packets-length, packets-at                  how many there are, and packet i
+--   sizes_none, sizes_more                      the wire sizes, packet by packet
 --   packets-set, packets-push, packets-remove   packet i overwritten; one more at the back; k fewer at the front
---   Places r xs                  each entry's place has two bits
---   places-set, places-push, places-remove   these three operations keep it so
+--   Places r xs                                 each entry's place has two bits
+--   places-set, places-push, places-remove      these three operations keep it so
 use Rattle.std.specs.Prelude.{◌≡◌, List, [], ◌∷◌, ◌++◌, map, ℕ, zero, suc, ◌+◌, ◌≤◌, ◌<◌, get_or, set, take, drop}
 use Rattle.std.proofs.Math.Path.{refl, sym, ap}
 use Rattle.std.proofs.Common.{◌∙◌, add-one, arith}

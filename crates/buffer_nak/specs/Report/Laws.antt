@@ -1,5 +1,5 @@
 -- What the code uses of a loss report on the books.
---   entered_to f ws k xs                  the list xs with the first k runs of the words ws entered
+--   entered_to f ws k xs                 the list xs with the first k runs of the words ws entered
 --   Growing f ws k xs                    none of these runs makes the list shorter
 --   Reportable, Readable, Enters         what the code requires; what holds of a report
 --   enter-none, added-fits, added-left   one run, as the code enters it

@@ -1,10 +1,10 @@
 -- A packet of a message on the books is a packet in the rules.
---   entry-is                 its entry represents it
+--   entry-is                              its entry represents it
 --   stands-room, stands-append, gone-is   making room, and one more packet at the back
---   room-made, pushed_room   there is room afterwards; making room doesn't change how many were pushed
---   slot_is                  the next packet's slot: "the k-th packet ever pushed (from 0) lies at (k mod capacity) ×
---                            packet size"
---   stands_one, store-one    both together, and where the payload then lies
+--   room-made, pushed_room                there is room afterwards; making room doesn't change how many were pushed
+--   slot_is                               the next packet's slot: "the k-th packet ever pushed (from 0) lies at (k mod capacity) ×
+--                                         packet size"
+--   stands_one, store-one                 both together, and where the payload then lies
 use Rattle.std.specs.Prelude.{◌≡◌, Bool, ℕ, ◌+◌, ◌-◌, ◌*◌, ◌%◌, ◌≤◌, ◌<◌, length, take, drop}
 use Rattle.std.proofs.Math.Path.{refl, ap}
 use Rattle.std.proofs.Common.{◌∙◌, arith, lit≤}

@@ -1,11 +1,11 @@
 -- What a packet of a message requires, and that this holds for one packet after the other.
---   Rest           n packets of a message are still to come, the books represent a sender that keeps the book rules,
---                  and no count can overflow
---   rest-one       after one packet, one fewer is to come
---   Next           what a packet requires: at least one is to come
---   Ahead, ahead   once room is made: the slot and the place of the packet, and its wire size in the byte count
+--   Rest                                        n packets of a message are still to come, the books represent a sender that keeps the book rules,
+--                                               and no count can overflow
+--   rest-one                                    after one packet, one fewer is to come
+--   Next                                        what a packet requires: at least one is to come
+--   Ahead, ahead                                once room is made: the slot and the place of the packet, and its wire size in the byte count
 --   cuttable, roomable, appendable, pushed-is   the packet can be cut and room made; the parts together are `push_one`
---   size-high, made-few, begins, part_lent   the bounds of the packet's size, index, start and bytes
+--   size-high, made-few, begins, part_lent      the bounds of the packet's size, index, start and bytes
 use Rattle.std.specs.Prelude.{◌≡◌, ℕ, suc, ◌+◌, ◌-◌, ◌*◌, ◌^◌, ◌≤◌, ◌<◌, leb, take, drop}
 use Rattle.std.proofs.Math.Path.{refl, ap}
 use Rattle.std.proofs.Common.{sym, ◌∙◌, arith, mul-le-mul_right, length-drop, leb-true}

@@ -1,12 +1,12 @@
 -- What the code of a run requires and guarantees: for a turn, for rule 1, and without budget.
---   Turning                            what a turn requires: books of a sender that keeps the book rules, room for two
---                                      records
---   Done, Swept                        what is left by a turn, and by rule 1
---   Runnable                           what a run requires: "Room needed: min(p, buffered) + 3 records."
---   done-by, turn_is                   what a turn leaves, by the rule that was done
+--   Turning                                         what a turn requires: books of a sender that keeps the book rules, room for two
+--                                                   records
+--   Done, Swept                                     what is left by a turn, and by rule 1
+--   Runnable                                        what a run requires: "Room needed: min(p, buffered) + 3 records."
+--   done-by, turn_is                                what a turn leaves, by the rule that was done
 --   loss-some, due-inside, unsent-more, flush_one   what holds if a rule is the first that applies
---   swept_none, swept-some, late-few   no packet is late, or k are, and k is at most the number buffered
---   run_none                           a run without budget
+--   swept_none, swept-some, late-few                no packet is late, or k are, and k is at most the number buffered
+--   run_none                                        a run without budget
 use Rattle.std.specs.Prelude.{◌≡◌, refl, Bool, true, false, ◌&&◌, List, ltb, length}
 use Rattle.std.proofs.Math.Path.{sym, ap, subst}
 use Rattle.std.proofs.Common.{◌∙◌, ltb-true, eqb-true}

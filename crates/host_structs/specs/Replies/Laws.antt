@@ -1,5 +1,5 @@
 -- What a host can tell from an answer.
---   refused-some   a refusal's number is not 0, so 0 means that the call was accepted
+--   refused-some                          a refusal's number is not 0, so 0 means that the call was accepted
 --   message-after, nak-after, run-after   the sender in the answer is the sender after the call
 use Rattle.std.specs.Prelude.{◌≡◌, ◌≤◌}
 use Rattle.std.proofs.Math.Path.{refl}

@@ -1,8 +1,8 @@
 -- Reading back a sender that was written as numbers gives that sender; writing one that was read from numbers that keep
 -- the book rules gives those numbers.
 --   flushed-back, next-back, mode-back, read-back   a sender is read back from its numbers
---   held_kept, next-kept, mode-kept, kept_back   numbers that keep the book rules are those of the sender they encode
---   NextSame, ModeSame   the same for next and for the mode, field by field
+--   held_kept, next-kept, mode-kept, kept_back      numbers that keep the book rules are those of the sender they encode
+--   NextSame, ModeSame                              the same for next and for the mode, field by field
 use Rattle.std.specs.Prelude.{◌≡◌, refl, Bool, true, false, ◌&&◌, cond, List, ℕ, eqb, length}
 use Rattle.std.proofs.Common.{sym, eqb-true}
 use Rattle.std.proofs.Math.Bool.{and-eq-true_iff}

@@ -1,8 +1,8 @@
 -- The list in the area represents the loss list of the rules, whose numbers count up without wrapping; each operation
 -- on the area represents the same operation in the rules. `front` is the front in the rules; in the area it is `wire
 -- front`.
---   key_of front                    the area's key: the distance from the front
---   far_first lost                  the list on the wire, reversed: the number nearest the front last
+--   key_of front                   the area's key: the distance from the front
+--   far_first lost                 the list on the wire, reversed: the number nearest the front last
 --   Stands lost front xs           xs is that list, and `lost` ascends from the front on, less than 2^31 away
 --   seen front xs                  the numbers that xs represents
 --   key_wire, wire-plus            the key of a number, and the number k further, on the wire

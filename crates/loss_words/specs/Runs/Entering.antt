@@ -3,7 +3,7 @@
 --   Inside s rs                  every run begins with a sequence number, and Added runs don't pass next unsent
 --   runs-inside, joined-inside   this holds of the runs of a report, and of the joined ones
 --   entered-sum                  the numbers of a run can enter in two parts
---   enter_all-joined              the joined runs enter what the runs enter
+--   enter_all-joined             the joined runs enter what the runs enter
 --   count-is                     how many numbers a run has, from its two ends
 use Rattle.std.specs.Prelude.{◌≡◌, Bool, cond, ℕ, zero, suc, ◌+◌, ◌-◌, ◌^◌, ◌≤◌, ◌<◌, min, ltb, eqb}
 use Rattle.std.proofs.Math.Path.{refl, ap}

@@ -1,11 +1,11 @@
 -- Runs in the first words of a lent list, and the list with one more run.
---   Holds len rs e l            the list l is e with the len runs rs in its first words
+--   Holds len rs e l                           the list l is e with the len runs rs in its first words
 --   goes_on l len kind first whether the last run in l continues into one of that kind and first number
---   Pushed, Written, Accepted   what the functions that write the answer guarantee and require
---   holds-none, holds-room, words-length   no runs; room for one more; how many words they take
---   Last                        the last run, and the runs before it
+--   Pushed, Written, Accepted                  what the functions that write the answer guarantee and require
+--   holds-none, holds-room, words-length       no runs; room for one more; how many words they take
+--   Last                                       the last run, and the runs before it
 --   pushed-on, pushed-new, push-on, push-new   one more run, joined to the last or not; as the code stores it
---   goes_on-some                a run that is continued is there
+--   goes_on-some                               a run that is continued is there
 use Rattle.std.specs.Prelude.{◌≡◌, refl, Bool, true, false, ◌&&◌, cond, List, [], ◌∷◌, ◌++◌, ℕ, zero, suc, ◌+◌, ◌-◌, ◌*◌, ◌≤◌, ◌<◌, ltb, eqb, length, drop, set, get_or}
 use Rattle.std.proofs.Common.{sym, ap, ◌∙◌, append_assoc, arith, length-append, length-drop, length-set, get_or-append-add, lt-ltb, le-ltb}
 use Rattle.std.proofs.Math.Seq.{append_snoc}

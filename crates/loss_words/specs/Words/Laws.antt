@@ -1,10 +1,10 @@
 -- What the code uses of a report's words, and how `parse` of the rules goes from one item to the next.
 --   step_end, step-one, step-alone, step-high, step-far, step_range   what is at an index, from the code's tests
---   parse-none, parse-some   the parse where there is no item, and where there is one
---   judged_from n w           `judged` after n items
---   Read ws at n             n items come before index `at`: the invariant of `judge`
+--   parse-none, parse-some                   the parse where there is no item, and where there is one
+--   judged_from n w                          `judged` after n items
+--   Read ws at n                             n items come before index `at`: the invariant of `judge`
 --   read_none, read_on, read_bad, read_all   at the start, after an item, at a bad one, at the end
---   words_many, words-few    over 512 words, and up to 512
+--   words_many, words-few                    over 512 words, and up to 512
 use Rattle.std.specs.Prelude.{◌≡◌, refl, Bool, true, cond, ℕ, suc, ◌+◌, ◌-◌, ◌^◌, ◌≤◌, ◌<◌, ltb, length, drop, get_or}
 use Rattle.std.proofs.Common.{sym, ◌∙◌, add-one, drop_of_length-le, length-drop, drop-cons, drop-drop}
 use Rattle.std.proofs.Math.Path.{ap}

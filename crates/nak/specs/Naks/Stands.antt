@@ -1,10 +1,10 @@
 -- A loss report on the sender and its lent areas is the report of the rules, for every sender that the books represent
 -- and that keeps the book rules. The words of a report are u32; the answer list holds one run per three words.
 --   verdict_of, sender_after   an answer's verdict, and the sender from then on
---   Listed, Says             the runs of the answer are in the list; a refusal leaves the list unchanged
---   Answers                  an outcome of the call is an answer of the rules
---   nak_refines              the call answers and leaves what the rules say
---   nak-short, nak-broken    if an area is too short; and otherwise, if the books break a rule
+--   Listed, Says               the runs of the answer are in the list; a refusal leaves the list unchanged
+--   Answers                    an outcome of the call is an answer of the rules
+--   nak_refines                the call answers and leaves what the rules say
+--   nak-short, nak-broken      if an area is too short; and otherwise, if the books break a rule
 use Rattle.std.specs.Prelude.{◌≡◌, refl, List, ℕ, ◌/◌, ◌^◌, ◌<◌, true, false, eqb, length, get_or}
 use Rattle.std.proofs.Common.{sym, ◌∙◌}
 use Rattle.rules_refusals.specs.declared.Refusal.TheVariants.{BadStore, BadState}

@@ -1,6 +1,6 @@
 -- What the layers above use of an input.
 --   Accepted s now p b, accepted   what is known of an input that no test refuses
---   on_input-accepted               such an input is never refused
+--   on_input-accepted              such an input is never refused
 --   input-due, input_silent        it is answered with a period exactly if an estimate is due
 --   moved-kept, after_kept         an accepted input keeps the book rules
 --   moved-room                     and there is room for what it adds

@@ -1,6 +1,6 @@
 -- What pacing and the layers above use of the period.
---   ModeRanged m   the ranges of a mode's rates and overhead, as facts
---   period-held    the period lies between 1 and 10^12
+--   ModeRanged m                                 the ranges of a mode's rates and overhead, as facts
+--   period-held                                  the period lies between 1 and 10^12
 --   mode_in_range-ranged, ranged-mode_in_range   the test decides the facts, both ways
 use Rattle.std.specs.Prelude.{◌≡◌, refl, true, ◌&&◌, ◌||◌, ℕ, ◌*◌, ◌/◌, ◌^◌, ◌≤◌, min, max, leb, eqb}
 use Rattle.std.proofs.Math.Bool.{and-eq-true_iff}

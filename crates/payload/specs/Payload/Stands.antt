@@ -1,6 +1,6 @@
 -- Where a payload lies is what the rules say, for every sender that the books represent and that keeps the book rules.
---   found_of                         the answer, from where the payload lies in the rules
---   verdict_of, said_of               an answer's verdict, and its value
+--   found_of                        the answer, from where the payload lies in the rules
+--   verdict_of, said_of             an answer's verdict, and its value
 --   found-is                        buffered or flushed, or neither
 --   Answers, payload_refines        the call answers what the rules say, and they don't change the sender
 --   payload-short, payload-broken   if an area is too short; and otherwise, if the books break a rule

@@ -1,9 +1,9 @@
 -- Host entries, one after the other, are the public calls, one after the other: what the crate promises says of the
 -- calls holds of the host's numbers.
---   Hub, world_of              what a host keeps and lends; the sender and areas it represents
+--   Hub, world_of             what a host keeps and lends; the sender and areas it represents
 --   enter, enters             the hub after an entry, and after a list of entries, refused ones included
 --   entered-is, all-entered   they leave what the public calls leave, so Promises/Always of promises holds of them
---   new_hub, new-started       the hub with a new sender; it is the fresh sender of promises
+--   new_hub, new-started      the hub with a new sender; it is the fresh sender of promises
 --   host_always               after any entries from there, it represents the sender of the rules after the same calls
 --   host_answers              and the next call answers as the rules do, with every word of its lent list
 --   refused-enters            "A refusal changes nothing lent or kept": no number that the host keeps, no word of the

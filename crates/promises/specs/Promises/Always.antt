@@ -2,7 +2,7 @@
 -- represent the sender of the rules, and what the rules promise holds of it.
 --   Stood c w s                        the world w represents the sender s of the rules, which keeps the book rules
 --   one_answer, one_world, one_store   a call in such a world answers as the rules do, and leaves such a world
---   sender_of ks                        the sender of the rules after the calls ks
+--   sender_of ks                       the sender of the rules after the calls ks
 --   always, stores, answers            after any calls: the books, the store, and the next call's answer
 --   reports-told                       the reports are those of the sender of the rules
 --   books-stay                         the books keep the rules, so no call answers 3

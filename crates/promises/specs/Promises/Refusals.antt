@@ -1,10 +1,10 @@
 -- "A refusal changes nothing": for any sender and areas, damaged ones included. Document 01: "All stays as before; 11
 -- alone keeps a new RTT."
 --   verdict_in k w          the verdict of a call's tests
---   refused-stays          a refused call leaves the sender, every word of the lent areas and the store unchanged,
---                          except by 11
+--   refused-stays           a refused call leaves the sender, every word of the lent areas and the store unchanged,
+--                           except by 11
 --   with_rtt, stale-keeps   11 keeps the ACK's round-trip time, and changes nothing else
---   refused-list           a refused call leaves every word of its lent list unchanged
+--   refused-list            a refused call leaves every word of its lent list unchanged
 use Rattle.std.specs.Prelude.{◌≡◌, refl, Bool, true, false, not, cond, List, ℕ, ◌^◌, eqb, leb, length}
 use Rattle.std.proofs.Common.{sym, ap, ◌∙◌, arith, ne_eqb}
 use Rattle.rules_refusals.specs.declared.Refusal.{Refusal}

@@ -1,12 +1,12 @@
 -- Worked examples of refusals, from document 01: "The lowest that applies is given, with only what the table names."
 -- Each list begins with all refusals of its call applying; then the lowest is removed, one after the other.
---   of-message   3, 4, 5, 6
---   of-ack       3, 7, 8, 9, 10, 11
---   of-nak       3, 12, 13
---   of-run       3, 4, 13
---   of-payload   3, 7, 14
+--   of-message             3, 4, 5, 6
+--   of-ack                 3, 7, 8, 9, 10, 11
+--   of-nak                 3, 12, 13
+--   of-run                 3, 4, 13
+--   of-payload             3, 7, 14
 --   by-packets, by_bytes   6: 2^38 since the last estimate may be reached and not passed; "one due now taken as made"
---   outside      10 "returns all three": the ACK, first and next unsent, as 31-bit numbers
+--   outside                10 "returns all three": the ACK, first and next unsent, as 31-bit numbers
 use Rattle.std.specs.Prelude.{◌≡◌, refl, [], ◌∷◌, ◌+◌, ◌-◌, ◌^◌, ℕ}
 use Rattle.std.proofs.Math.Option.{Option, none, some}
 use Rattle.rules_refusals.specs.declared.Refusal.TheVariants.{BadNak, BadNumber, BadRtt, BadState, BadTime, CountFull, Empty, InvalidAck, NoRoom, NotHeld, StaleFullAck, TooLong}

@@ -1,5 +1,5 @@
 -- What a late drop may remove.
---   is_drop, drops rs     how many of the records are drops
+--   is_drop, drops rs    how many of the records are drops
 --   Overdue c now ps i   the packet at index i is late, or is of the same message as the last late one before it
 use Rattle.std.specs.Prelude.{◌≡◌, List, [], ◌∷◌, ◌+◌, ◌<◌, ◌≤◌, ℕ, get_or}
 use Rattle.rules.specs.Records.{Action, ByLoss, ByTime, Drop, Kind, Send, WaitAck, WaitInput}

@@ -1,5 +1,5 @@
 -- The answer to a loss report.
---   up_from m n           the n 31-bit numbers from m on
+--   up_from m n          the n 31-bit numbers from m on
 --   reported, answered   the numbers that a report names, and those that an answer names, in order
 --   AllOf s k m n        the n numbers from m on are all of kind k
 --   OneKind, AllRuns     a run is not empty, and all its numbers are of its kind; what holds of every run

@@ -1,7 +1,7 @@
 -- No packet is sent twice in a run.
 --   is_flush          a record of the closing flush: the only send of kind 1 that has the retransmitted flag
 --   sent_numbers rs   the numbers that the records send, except by the flush
---   Distinct xs      no number occurs twice
+--   Distinct xs       no number occurs twice
 use Rattle.std.specs.Prelude.{Bool, ◌&&◌, cond, false, not, List, [], ◌∷◌, ◌%◌, ℕ, eqb}
 use Rattle.rules_theorems.specs.Demands.{On}
 use Rattle.rules.specs.Records.{Action, ByLoss, ByTime, Drop, Kind, Send, WaitAck, WaitInput, is_send}

@@ -1,8 +1,8 @@
 -- The payloads in the store.
---   cuts                   the payloads of n packets of a message, from packet i on
+--   cuts                    the payloads of n packets of a message, from packet i on
 --   payloads, payloads_by   all payloads pushed by accepted messages: the k-th is that of the k-th packet ever pushed
---   Holds                  the store holds the payload of every buffered packet, at its place and with its length; ps
---                          are the payloads ever pushed
+--   Holds                   the store holds the payload of every buffered packet, at its place and with its length; ps
+--                           are the payloads ever pushed
 use Rattle.std.specs.Prelude.{◌≡◌, List, [], ◌++◌, ◌∷◌, ◌+◌, ◌<◌, ◌≤◌, suc, zero, ℕ, drop, get_or, length, take}
 use Rattle.rules_refusals.specs.declared.Verdict.{Verdict}
 use Rattle.rules_refusals.specs.declared.Verdict.TheVariants.{Accepted, Refused}

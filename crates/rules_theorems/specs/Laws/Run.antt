@@ -1,10 +1,10 @@
 -- The run with rule 1 taken out of the loop, and what holds if a rule is the first that applies.
---   sweep c now s    the late drop
---   turns            the rest of the run: rules 2 to 7
---   split            the late drop, then the rest; proofs/Split.antt shows that this is the run
+--   sweep c now s     the late drop
+--   turns             the rest of the run: rules 2 to 7
+--   split             the late drop, then the rest; proofs/Split.antt shows that this is the run
 --   is_due, Applies   the packet that is due; what holds if a rule is chosen
---   Paid t           what a turn of rules 2 to 7 sends
---   wait-small       the time to a resend is held
+--   Paid t            what a turn of rules 2 to 7 sends
+--   wait-small        the time to a resend is held
 use Rattle.std.specs.Prelude.{◌≡◌, Bool, false, true, [], ◌∷◌, ◌%◌, ◌-◌, ◌^◌, ◌<◌, ◌≤◌, suc, zero, ℕ, length, take}
 use Rattle.std.proofs.Math.Option.{Option, none, some}
 use Rattle.std.proofs.Common.{arith}

@@ -1,10 +1,10 @@
 -- A run on the sender and its lent areas is the run of the rules, for every sender that the books represent and that
 -- keeps the book rules.
 --   verdict_of, sender_after   an answer's verdict, and the sender from then on
---   Said                     the records in the list, their number and the budget left are what the rules say
---   Answers                  an outcome of the call is an answer of the rules
---   run_refines              the call answers and leaves what the rules say
---   run_short, run-broken    if an area is too short; and otherwise, if the books break a rule
+--   Said                       the records in the list, their number and the budget left are what the rules say
+--   Answers                    an outcome of the call is an answer of the rules
+--   run_refines                the call answers and leaves what the rules say
+--   run_short, run-broken      if an area is too short; and otherwise, if the books break a rule
 use Rattle.std.specs.Prelude.{◌≡◌, Bool, ◌&&◌, cond, List, ◌++◌, leb, eqb, length}
 use Rattle.std.proofs.Math.Path.{refl, sym, ap, subst}
 use Rattle.std.proofs.Common.{◌∙◌, arith, leb-false, lt-ltb, le-ltb}

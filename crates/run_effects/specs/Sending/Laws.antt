@@ -1,10 +1,10 @@
 -- What the code of a sending uses.
---   Recorded k m e r                  r is the record of a sending of the entry e, whose number is m on the wire
---   place_bits_of, again-bit, recorded   the record's flags, and the record
+--   Recorded k m e r                       r is the record of a sending of the entry e, whose number is m on the wire
+--   place_bits_of, again-bit, recorded     the record's flags, and the record
 --   wait_product, wait-first, wait-again   the time from now to the resend
---   Sendable, sent_books, sent-from    what a sending requires, the books after it, and the whole from its parts
---   acts_as                           the same for an equal turn
---   written-append                    the records of two turns in the list
+--   Sendable, sent_books, sent-from        what a sending requires, the books after it, and the whole from its parts
+--   acts_as                                the same for an equal turn
+--   written-append                         the records of two turns in the list
 use Rattle.std.specs.Prelude.{◌≡◌, refl, List, [], ◌∷◌, ◌++◌, ℕ, zero, suc, ◌+◌, ◌-◌, ◌*◌, ◌^◌, ◌≤◌, ◌<◌, min, length, get_or}
 use Rattle.std.proofs.Common.{sym, ap, ◌∙◌, mul-le-mul, arith}
 use Rattle.std.proofs.Math.Seq.{paste}

@@ -1,8 +1,8 @@
 -- What the code of each rule requires and leaves, and how its parts make up the whole.
---   Standing, Losing, Flushable   books and areas of a sender that keeps the book rules, in which a rule can be done
---   Drops, Waits                  what is left by rule 1, and by the rules that wait
---   sendable                      any packet of such books can be sent
---   losing_sendable, loss_acts    rule 2
+--   Standing, Losing, Flushable                     books and areas of a sender that keeps the book rules, in which a rule can be done
+--   Drops, Waits                                    what is left by rule 1, and by the rules that wait
+--   sendable                                        any packet of such books can be sent
+--   losing_sendable, loss_acts                      rule 2
 --   flush_acts, drop_acts, ack_waits, input_waits   rules 6, 1, 4 and 7; rule 5 is in Unsent
 use Rattle.std.specs.Prelude.{◌≡◌, refl, List, ℕ, ◌+◌, ◌-◌, ◌*◌, ◌^◌, ◌≤◌, ◌<◌, take, get_or}
 use Rattle.std.proofs.Common.{sym, ap, ◌∙◌, mod-eq_of_lt, arith}

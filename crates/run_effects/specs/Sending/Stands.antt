@@ -1,9 +1,9 @@
 -- What each rule does to books that represent a sender is what it does to the sender in the rules.
---   TurnStands c t u   what the turn t leaves represents what u leaves, and both have the same records
---   few, number_is, packet-is, record_is   packets and their numbers
+--   TurnStands c t u                              what the turn t leaves represents what u leaves, and both have the same records
+--   few, number_is, packet-is, record_is          packets and their numbers
 --   dropped_refines, stands-sent, stands-popped   rule 1; a sending; the number nearest the front leaves the loss list
---   shorter            the sender with that number off the list
---   nearest-below      the number on the loss list nearest the front is a sent one
+--   shorter                                       the sender with that number off the list
+--   nearest-below                                 the number on the loss list nearest the front is a sent one
 --   loss_refines, due_refines, window_refines, next_refines, unsent_refines, flush_refines, input_refines
 --                      rules 2 to 7
 use Rattle.std.specs.Prelude.{◌≡◌, Bool, true, false, ◌&&◌, cond, eqb, take}

@@ -1,9 +1,9 @@
 -- An ACK on the sender and its lent areas is the ACK of the rules, for every sender that the books represent and that
 -- keeps the book rules.
 --   verdict_of, said_of, sender_after   an answer's verdict, its values, and the sender from then on
---   Answers                          an outcome of the call is an answer of the rules
---   ack_refines                      the call answers and leaves what the rules say; 11 alone keeps a new RTT
---   ack-short, ack-broken            if an area is too short; and otherwise, if the books break a rule
+--   Answers                             an outcome of the call is an answer of the rules
+--   ack_refines                         the call answers and leaves what the rules say; 11 alone keeps a new RTT
+--   ack-short, ack-broken               if an area is too short; and otherwise, if the books break a rule
 use Rattle.std.specs.Prelude.{◌≡◌, Bool, ℕ, ◌^◌, leb, eqb, length}
 use Rattle.std.proofs.Math.Path.{refl}
 use Rattle.std.proofs.Common.{sym, ap, ◌∙◌, leb-false}

@@ -1,10 +1,10 @@
 -- What the code of the calls requires, and that it agrees with its definition.
---   Counting s, counting                 the byte count with a message can be summed; it can if 2 and 3 don't apply
+--   Counting s, counting                   the byte count with a message can be summed; it can if 2 and 3 don't apply
 --   then-accepted, then-refused, then_by   the tests after 2 and 3
---   short-is                             the code's tests for 2
---   Pushable, pushable                   a message that no test refuses
---   push-done, finished_as               its answer, from what was pushed and what pacing answered
---   made-bad, made-refused, made-ready   a request for a new sender, by its settings and then by its mode
+--   short-is                               the code's tests for 2
+--   Pushable, pushable                     a message that no test refuses
+--   push-done, finished_as                 its answer, from what was pushed and what pacing answered
+--   made-bad, made-refused, made-ready     a request for a new sender, by its settings and then by its mode
 use Rattle.std.specs.Prelude.{◌≡◌, Bool, cond, not, ◌||◌, ◌&&◌, List, ltb}
 use Rattle.std.proofs.Math.Path.{refl}
 use Rattle.std.proofs.Common.{sym, ap, ◌∙◌, arith}

@@ -1,13 +1,13 @@
 -- A message on the sender and its lent areas is the message of the rules, for every sender that the books represent and
 -- that keeps the book rules.
 --   verdict_of, said_of, sender_after   an answer's verdict, its values, and the sender from then on
---   period_in, made_verdict            a new period, if any; the verdict on a new sender
---   Answers                          an outcome of the call is an answer of the rules, with the same store
---   verdict-is                       the tests give the verdict of the rules
---   message_refines                  the call answers and leaves what the rules say
---   message-short, message-broken    if an area is too short; and otherwise, if the books break a rule
---   made-verdict, new_refines        a request for a new sender: its verdict; the new sender is the fresh one of the
---                                    rules
+--   period_in, made_verdict             a new period, if any; the verdict on a new sender
+--   Answers                             an outcome of the call is an answer of the rules, with the same store
+--   verdict-is                          the tests give the verdict of the rules
+--   message_refines                     the call answers and leaves what the rules say
+--   message-short, message-broken       if an area is too short; and otherwise, if the books break a rule
+--   made-verdict, new_refines           a request for a new sender: its verdict; the new sender is the fresh one of the
+--                                       rules
 use Rattle.std.specs.Prelude.{◌≡◌, Bool, true, false, cond, List, [], ◌∷◌, leb, eqb}
 use Rattle.std.proofs.Math.Path.{refl, sym, ap}
 use Rattle.std.proofs.Common.{◌∙◌}

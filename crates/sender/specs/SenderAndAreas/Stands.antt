@@ -1,8 +1,8 @@
 -- The books with their lent areas represent a sender of the rules; what that means for refusals 2 and 3.
---   StandsFor g s              the books represent s, and pacing is its pacing
---   kept-is, seen, seen-kept   the books keep the rules exactly if they represent a sender that does, so 3 is exact
---   stands_as                  the same for an equal sender
---   areas-long                 its areas are long enough
+--   StandsFor g s                               the books represent s, and pacing is its pacing
+--   kept-is, seen, seen-kept                    the books keep the rules exactly if they represent a sender that does, so 3 is exact
+--   stands_as                                   the same for an equal sender
+--   areas-long                                  its areas are long enough
 --   judge-accepted, judge-broken, judge-short   the verdict of the two tests
 use Rattle.std.specs.Prelude.{◌≡◌, refl, Bool, true, ◌&&◌, ◌||◌, List, ℕ, ◌*◌, length}
 use Rattle.std.proofs.Math.Bool.{false, and-eq-true_iff}
