@@ -9,7 +9,6 @@
 --   full_of, rtt_of                    an ACK's full number and round-trip time, if it has them
 --   ack_answer, answer_by, action_of   an ACK's answer from its fields; the answer to an accepted ACK
 --   ack_left f s n                     "11 alone keeps a new RTT"
-pub mod Laws
 use Rattle.std.specs.Prelude.{Bool, true, false, cond, ℕ, eqb, get_or}
 use Rattle.rules_numbers.specs.declared.Rtt.{Rtt}
 use Rattle.rules_pacing.specs.Kept as Pacing

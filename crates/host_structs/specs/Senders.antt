@@ -8,7 +8,6 @@
 --   control_of, pacing_from            what pacing keeps
 --   buffer_of, books_from              what the send buffer keeps
 --   sender_of, flat_from               all of it
-pub mod Laws
 use Rattle.std.specs.Prelude.{cond, ◌&&◌, ℕ, eqb}
 use Rattle.rules_pacing.specs.declared.LiveBandwidthMode.{LiveBandwidthMode}
 use Rattle.rules_pacing.specs.declared.LiveBandwidthMode.TheVariants.{Input, Estimated, Max, Unlimited}

@@ -6,7 +6,6 @@
 --   after, worlds   the world after a call, and after a list of calls, refused ones included
 --   Same k w a      the call's answer, with every word of its lent list, is the answer a of the rules
 --   started         a fresh sender in lent areas
-pub mod Always
 pub mod Coincide
 pub mod Refusals
 use Rattle.std.specs.Prelude.{List, [], ◌∷◌, ℕ, ◌/◌, ◌^◌, ◌<◌, Bool, length, get_or}

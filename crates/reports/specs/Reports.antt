@@ -3,7 +3,6 @@
 --   reports_of g   what the buffer's books say
 --   reports g      the call; refusals 2 and 3
 pub mod Laws
-pub mod Stands
 use Rattle.rules_refusals.specs.Verdict.{answer}
 use Rattle.rules.specs.Reports.{time_of}
 use Rattle.buffer.specs.State.{packets_of}

@@ -26,7 +26,7 @@ use Rattle.ring.specs.Ring.{slot_of}
 use Rattle.loss_list.specs.LossList.{descends, keeps}
 use Rattle.loss_list.specs.LossList.Stands as losses
 use Rattle.loss_list.specs.LossList.Stands.{key_of, seen, stands-length}
-use Rattle.loss_list.specs.LossList.Stands.BookRules.{stands-keeps, keeps-stands, keeps-ascends}
+use Rattle.loss_list.proofs.LossList.Stands.BookRules.{stands-keeps, keeps-stands, keeps-ascends}
 use Rattle.rules.specs.Numbers.{wire}
 use Rattle.rules_theorems.specs.Laws.Numbers.{wire-below}
 use Rattle.rules.specs.Settings.{Settings, in_range, capacity}

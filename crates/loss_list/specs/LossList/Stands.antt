@@ -11,7 +11,6 @@
 --   stands_from, stands-below      those below n go, and the front moves to n; how many they are
 --   far_snoc                       one more number at the far end
 --   stands-entered, stands-grows   a run of numbers enters, each once, as in the rules; no list becomes shorter
-pub mod BookRules
 use Rattle.std.specs.Prelude.{◌≡◌, Bool, drop, get_or}
 use Rattle.std.proofs.Math.Path.{refl, ap}
 use Rattle.std.proofs.Common.{sym, ◌∙◌, sub-one, get_or-take, take_at, take-take, drop_at}

@@ -93,19 +93,6 @@ module _ (w : World) (r : Refusal) where
       go Accepted e = cc
       go (Refused q) e = refl
 
-  run-stays : (now p : ℕ) (draining : Bool) (list : List ℕ) → verdict_in (run now p draining list) w ≡ Refused r → after (run now p draining list) w ≡ w
-  unfolding verdict_in after Runs.run
-  run-stays now p draining list = go (Runs.run_verdict g now p (length list))
-    where
-      left : Verdict → Runs.Runs
-      left v =
-          answer (λ q. Runs.runs (ran.Refused q) g.ring g.lost list) v (Runs.ran_by g.sender (Run₀.run (rules_of g) now draining p (state_of g) list))
-
-      go : (v : Verdict) → Run.verdict_of (left v).answer ≡ Refused r
-          → record { books = books (Run.sender_after g.sender (left v).answer) (left v).ring (left v).lost; store = w.store } ≡ w
-      go Accepted e = cc
-      go (Refused q) e = refl
-
 -- ## An ACK
 
 -- the same world with other books of the buffer
@@ -175,11 +162,23 @@ stale-keeps w r n full rtt e is = ack_leaves w r n full rtt e ∙ rw is
 -- ## Any call
 
 pub refused-stays : (k : Call) (w : World) (r : Refusal) → verdict_in k w ≡ Refused r → (number_of r ≡ 11 → ⊥) → after k w ≡ w
-unfolding after
+unfolding verdict_in after Runs.run
 refused-stays (message time now bytes) w r e n = message-stays w r time now bytes e
 refused-stays (ack m full rtt) w r e n = ack-stays w r m full rtt e n
 refused-stays (nak words list) w r e n = nak-stays w r words list e
-refused-stays (run now p draining list) w r e n = run-stays w r now p draining list e
+refused-stays (run now p draining list) w r e n = go (Runs.run_verdict g now p (length list)) e
+  where
+    g : Books
+    g = w.books
+
+    left : Verdict → Runs.Runs
+    left v =
+        answer (λ q. Runs.runs (ran.Refused q) g.ring g.lost list) v (Runs.ran_by g.sender (Run₀.run (rules_of g) now draining p (state_of g) list))
+
+    go : (v : Verdict) → Run.verdict_of (left v).answer ≡ Refused r
+        → record { books = books (Run.sender_after g.sender (left v).answer) (left v).ring (left v).lost; store = w.store } ≡ w
+    go Accepted e = cc
+    go (Refused q) e = refl
 refused-stays (payload m) w r e n = refl
 
 -- the lent list of a refused call is unchanged too
