@@ -1,2 +1,2 @@
-pub mod Senders
-pub mod Replies
+pub mod HostAnswers
+pub mod ReadBack

@@ -48,9 +48,9 @@ use Rattle.run.specs.Runs as Runs
 use Rattle.run.specs.Runs.Stands as Run
 use Rattle.host_structs.specs.declared.senders.FlatSender.{FlatSender}
 use Rattle.host_structs.specs.Senders.{sender_of, flat_from}
-use Rattle.host_structs.proofs.Senders.Laws.{read_back}
+use Rattle.host_structs.proofs.ReadBack.{read_back}
 use Rattle.host_structs.specs.Replies.{refused_of, new_of, message_of, ack_left, answer_by, ack_of, nak_of, run_of}
-use Rattle.host_structs.proofs.Replies.Laws.{message-after, nak-after, run-after}
+use Rattle.host_structs.proofs.HostAnswers.{message-after, nak-after, run-after}
 use Rattle.promises.specs.Promises as calls
 use Rattle.promises.specs.Promises.{World, Call, rule_of, Fits, AllFit, after, worlds, Same, started}
 use Rattle.promises.proofs.Promises.Always.{Stood, always, answers}

@@ -38,7 +38,7 @@ use Rattle.nak.specs.Naks.Stands as Nak
 use Rattle.reports.specs.declared.Told.TheVariants.{Known}
 use Rattle.payload.specs.Payload.Stands as Payload
 use Rattle.reports.specs.Reports.{reports}
-use Rattle.reports.proofs.Reports.Stands.{reports_refines}
+use Rattle.reports.proofs.Refines.{reports_refines}
 use Rattle.run.specs.Runs.Stands as Run
 use Rattle.buffer_ack.specs.declared.FullAck.TheVariants as full
 use Rattle.promises.specs.Promises.{World, Call, message, ack, nak, run, payload, rule_of, Fits, AllFit, after, worlds, Same, started}

@@ -17,7 +17,7 @@ use Rattle.run.specs.declared.Ran.TheVariants as ran
 use Rattle.run.specs.Runs.Stands as Run
 use Rattle.host_structs.specs.declared.senders.FlatSender.{FlatSender}
 use Rattle.host_structs.specs.Senders.{sender_of}
-use Rattle.host_structs.proofs.Senders.Laws.{read_back}
+use Rattle.host_structs.proofs.ReadBack.{read_back}
 use Rattle.host_structs.specs.Replies.{refused_of, message_of, nak_of, run_of}
 
 pub refused-some : (r : Refusal) → 1 ≤ (refused_of r).number
