@@ -6,15 +6,15 @@ ghost use Rattle.std.proofs.Math.Seq.{paste};
 ghost use Rattle.rules.specs.Records.{encode};
 ghost use Rattle.action_records.specs.Record.{Numbered, action_of, plain};
 
-// What a record tells the host to do.
+// What a record tells the host to do, with its number in document 01.
 #[derive(Clone, Copy)]
 pub enum Kind {
-    Send,
-    RetransmitRto,
-    RetransmitNak,
-    Drop,
-    WaitForInput,
-    WaitForAck,
+    Send = 1,
+    RetransmitRto = 2,
+    RetransmitNak = 3,
+    Drop = 4,
+    WaitForInput = 5,
+    WaitForAck = 6,
 }
 
 // One record, its fields in document 01's order; `word` is the message, the exclusive drop end or the unacknowledged count. Fields that its kind
@@ -22,6 +22,7 @@ pub enum Kind {
 #[derive(Clone, Copy)]
 pub struct Record {
     pub kind: Kind,
+    // Packed as in the record: the rules' `Action` has this one number.
     pub flags: u8,
     pub len: u16,
     pub number: u32,
@@ -38,14 +39,7 @@ impl Kind {
     pub fn number(self) -> u8
         ensures { Numbered self result }
     {
-        match self {
-            Kind::Send => 1,
-            Kind::RetransmitRto => 2,
-            Kind::RetransmitNak => 3,
-            Kind::Drop => 4,
-            Kind::WaitForInput => 5,
-            Kind::WaitForAck => 6,
-        }
+        self as u8
     }
 }
 
@@ -69,46 +63,23 @@ impl Record {
     pub fn bytes(self) -> [u8; 24]
         ensures { result ≡ encode (action_of self) }
     {
-        let kind = self.kind;
-        let len = octets::little16(self.len);
-        let number = octets::little32(self.number);
-        let word = octets::little32(self.word);
-        let stamp = octets::little32(self.stamp);
-        let time = octets::little64(self.time);
-        [
-            kind.number(),
-            self.flags,
-            len[0],
-            len[1],
-            number[0],
-            number[1],
-            number[2],
-            number[3],
-            word[0],
-            word[1],
-            word[2],
-            word[3],
-            stamp[0],
-            stamp[1],
-            stamp[2],
-            stamp[3],
-            time[0],
-            time[1],
-            time[2],
-            time[3],
-            time[4],
-            time[5],
-            time[6],
-            time[7],
-        ]
+        let mut bytes = [0; SIZE];
+        bytes[0] = self.kind.number();
+        bytes[1] = self.flags;
+        bytes[2..4].copy_from_slice(&self.len.to_le_bytes());
+        bytes[4..8].copy_from_slice(&self.number.to_le_bytes());
+        bytes[8..12].copy_from_slice(&self.word.to_le_bytes());
+        bytes[12..16].copy_from_slice(&self.stamp.to_le_bytes());
+        bytes[16..].copy_from_slice(&self.time.to_le_bytes());
+        bytes
     }
 
-    // The record as number `k`, from 0, of the lent list; every other byte stays.
+    // The record as number `k`, from 0, of the lent list; every other byte stays. List and number, as docs/ promise it.
     pub fn write(self, list: &mut [u8], k: usize)
         requires { k * 24 + 24 ≤ length list.old }
         ensures { list.new ≡ paste list.old (k * 24) (encode (action_of self)) 24 }
     {
-        let bytes = self.bytes();
-        octets::copy_in(list, k * SIZE, &bytes, SIZE);
+        let at = k * SIZE;
+        list[at..at + SIZE].copy_from_slice(&self.bytes());
     }
 }

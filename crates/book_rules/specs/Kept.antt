@@ -8,6 +8,7 @@
 --   numbers_kept c b                       the rules of the kept numbers
 --   areas_kept c b n m                     whether n words hold the ring and m the loss list, by the capacity
 --   all t es                               whether t holds of every entry of es
+--   packet_entry c e                       the rules of any packet's entry
 --   sent_entry, unsent_entry, entry_kept   the rules of a sent packet's entry, of an unsent one's, of either
 --   entries_kept c b xs                    the rules of every packet's entry in the words xs
 --   kept c st                              the book rules
@@ -15,7 +16,7 @@
 pub mod Entries
 pub mod Laws
 pub mod Stands
-use Rattle.std.specs.Prelude.{Bool, true, false, ◌&&◌, List, [], ◌∷◌, ℕ, ◌^◌, ltb, leb, eqb, length, take, drop}
+use Rattle.std.specs.Prelude.{Bool, true, false, ◌&&◌, List, [], ◌∷◌, ℕ, ◌^◌, ltb, leb, eqb, length, take, drop, Option, Some, None}
 use Rattle.rules_numbers.specs.Rtt as Rtt
 use Rattle.ring.specs.declared.Entry.{Entry}
 use Rattle.ring.specs.Ring.{packets, placed}
@@ -23,14 +24,13 @@ use Rattle.loss_list.specs.LossList.{keeps}
 use Rattle.rules.specs.Settings.{Settings, in_range, capacity}
 use Rattle.rules.specs.Sender.{wire_sizes}
 use Rattle.rules.specs.BookRules.{sent_kept, unsent_kept}
-use Rattle.buffer.specs.declared.Flushed.{Flushed}
-use Rattle.buffer.specs.declared.Flushed.TheVariants.{Nothing, Held}
 use Rattle.buffer.specs.declared.SendBuffer.{SendBuffer}
 use Rattle.buffer.specs.State.{State, packet_of, view}
+use Rattle.buffer.specs.declared.FlushedPacket.{FlushedPacket}
 
-abbrev pub flushed_kept : Settings → Flushed → Bool
-flushed_kept c Nothing = true
-flushed_kept c (Held n slot len) = ltb n.0 (2 ^ 31) && (ltb slot (capacity c) && leb len c.size)
+abbrev pub flushed_kept : Settings → Option FlushedPacket → Bool
+flushed_kept c None = true
+flushed_kept c (Some p) = ltb p.number.0 (2 ^ 31) && (ltb p.slot (capacity c) && leb p.len c.size)
 
 -- "next unsent between the front and one past the back", "byte count below 2^62", "the expected full number 1 to 2^32",
 -- and the ranges of the other fields
@@ -46,6 +46,10 @@ areas_kept c b n m = placed b.ring n && (eqb b.ring.cap (capacity c) && leb b.ri
 unfoldable pub all : (Entry → Bool) → List Entry → Bool
 all t [] = true
 all t (e ∷ es) = t e && all t es
+
+-- what holds of sent and unsent packets alike: "times below 2^48; payloads at most packet size"; two bits are the place
+abbrev pub packet_entry : Settings → Entry → Bool
+packet_entry c e = leb e.place 3 && (ltb e.time (2 ^ 48) && (ltb e.message (2 ^ 26) && leb e.len c.size))
 
 -- "sent packets .. have a transmit count of at least 1 (held at 65,535) and a resend time below 2^49"; two bits are
 -- the place

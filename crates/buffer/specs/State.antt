@@ -8,6 +8,7 @@
 --   view st            the buffered packets
 --   lost_of st         the loss list as it is in its area: farthest first
 --   put b ..           b with another ring, front, sent count, loss count and byte count
+--   flushed_packet ..  a flushed packet, from its number, slot and length
 --   with_others b ..   b with another RTT, message number, expected full number and flushed packet
 pub mod Facts
 pub mod Fresh
@@ -15,8 +16,9 @@ pub mod Reports
 pub mod Slots
 pub mod Stands
 pub mod View
-use Rattle.std.specs.Prelude.{List, map, ℕ, zero, suc, take}
+use Rattle.std.specs.Prelude.{List, map, ℕ, zero, suc, take, Option, None}
 use Rattle.rules_numbers.specs.declared.MsgNumber.{MsgNumber}
+use Rattle.rules_numbers.specs.declared.SeqNumber.{SeqNumber}
 use Rattle.rules_packets.specs.declared.Place.{Place}
 use Rattle.rules_packets.specs.declared.Place.TheVariants.{First, Middle, Last, Only}
 use Rattle.ring.specs.declared.Entry.{Entry}
@@ -27,9 +29,8 @@ use Rattle.rules_numbers.specs.Rtt.{start}
 use Rattle.rules.specs.Settings as rules
 use Rattle.rules.specs.Sender.{Packet}
 use Rattle.buffer.specs.declared.Settings.{Settings}
-use Rattle.buffer.specs.declared.Flushed.{Flushed}
-use Rattle.buffer.specs.declared.Flushed.TheVariants.{Nothing}
 use Rattle.buffer.specs.declared.SendBuffer.{SendBuffer}
+use Rattle.buffer.specs.declared.FlushedPacket.{FlushedPacket}
 
 pub record State : Type 0 where
   pub books : SendBuffer
@@ -88,7 +89,10 @@ put b ring front sent lost bytes = record {
   flushed = b.flushed;
 }
 
-abbrev pub with_others : SendBuffer → Rtt → MsgNumber → ℕ → Flushed → SendBuffer
+abbrev pub flushed_packet : SeqNumber → ℕ → ℕ → FlushedPacket
+flushed_packet number slot len = record { number = number; slot = slot; len = len }
+
+abbrev pub with_others : SendBuffer → Rtt → MsgNumber → ℕ → Option FlushedPacket → SendBuffer
 with_others b rtt message expected flushed = record {
   ring = b.ring;
   front = b.front;
@@ -111,5 +115,5 @@ fresh c = record {
   rtt = start;
   message = record { 0 = 0 };
   expected = 1;
-  flushed = Nothing;
+  flushed = None;
 }

@@ -1,6 +1,8 @@
 // The send buffer's books: what a sender keeps besides the lent areas. Document 01, "Numbers and their ends", "Book
 // rules" and the reports of "What the hub takes from the crate"; the Rust's `SendBuffer`. The packets lie in a lent
-// ring of entries, the loss list in a lent area.
+// ring of entries, the loss list in a lent area. That the books are sound stands in the contracts of the crates above, and is
+// no invariant of a type: it speaks of areas that are lent for each call, and C fills them. Settings are a parameter beside the
+// books: the functions above that docs/ names take them so. In a contract `settings_of` and `state` lead from the code's names to the rules'.
 #![tactic(auto)]
 
 ghost use Rattle.std.specs.Prelude.{◌≡◌, ◌-◌, ◌≤◌, max, ltb, take};
@@ -8,7 +10,7 @@ ghost use Rattle.ring.specs.Ring.Laws.{Placed};
 ghost use Rattle.rules.specs.Settings.{capacity, late_window};
 ghost use Rattle.rules.specs.Sender.{wire_sizes};
 ghost use Rattle.rules.specs.Reports.{time_of};
-ghost use Rattle.buffer.specs.State.{settings_of, packets_of, put, with_others, fresh};
+ghost use Rattle.buffer.specs.State.{settings_of, packets_of, fresh};
 ghost use Rattle.buffer.specs.State.Reports.{is_flushed, has_packets_to_send};
 ghost use Rattle.buffer.specs.Removal.Laws.{Removable, Removed, Weighable};
 
@@ -17,7 +19,7 @@ use rules_numbers::{MsgNumber, Rtt, SeqNumber};
 
 // The seven settings of a sender, in document 01's order.
 #[repr(C)]
-#[derive(Clone, Copy)]
+#[derive(Clone, Copy, Default)]
 pub struct Settings {
     pub first: u32,
     pub size: u32,
@@ -28,15 +30,17 @@ pub struct Settings {
     pub socket: u32,
 }
 
-// The flushed packet, whose payload is held until the next accepted message.
+// The flushed packet, whose payload is held until the next accepted message: its number, its slot and its length.
 #[derive(Clone, Copy)]
-pub enum Flushed {
-    Nothing,
-    Held(SeqNumber, usize, usize),
+pub struct FlushedPacket {
+    pub number: SeqNumber,
+    pub slot: usize,
+    pub len: usize,
 }
 
 // The kept numbers: where the packets lie, the front's number, how many packets from the front on are sent, the length
 // of the loss list, the byte count, and the fields that don't depend on the packets.
+// No slices in it: C keeps these numbers between the calls, and lends the two areas for each call.
 #[derive(Clone, Copy)]
 pub struct SendBuffer {
     pub ring: Ring,
@@ -47,19 +51,7 @@ pub struct SendBuffer {
     pub rtt: Rtt,
     pub message: MsgNumber,
     pub expected: u64,
-    pub flushed: Flushed,
-}
-
-fn larger(a: u32, b: u32) -> u32
-    ensures { result ≡ max a b }
-{
-    if a <= b { b } else { a }
-}
-
-fn less(a: u32, b: u32) -> u32
-    ensures { result ≡ a - b }
-{
-    if a < b { 0 } else { a - b }
+    pub flushed: Option<FlushedPacket>,
 }
 
 impl Settings {
@@ -67,7 +59,7 @@ impl Settings {
     pub fn capacity(self) -> u32
         ensures { result ≡ capacity (settings_of self) }
     {
-        larger(1, self.buffer)
+        self.buffer.max(1)
     }
 
     // How old a packet may be before it is late, in microseconds.
@@ -75,7 +67,7 @@ impl Settings {
         requires { self.latency ≤ 65_535_000 }
         ensures { result ≡ late_window (settings_of self) }
     {
-        larger(self.latency + self.latency / 4, 1_000_000)
+        (self.latency + self.latency / 4).max(1_000_000)
     }
 }
 
@@ -97,52 +89,7 @@ impl SendBuffer {
             rtt: rtt::start(),
             message: MsgNumber(0),
             expected: 1,
-            flushed: Flushed::Nothing,
-        }
-    }
-
-    // The same books with another ring, front and counts.
-    pub fn put(self, ring: Ring, front: SeqNumber, sent: u32, lost: usize, bytes: u64) -> SendBuffer
-        ensures { result ≡ put self ring front.0 sent lost bytes }
-    {
-        let rtt = self.rtt;
-        let message = self.message;
-        let flushed = self.flushed;
-        SendBuffer {
-            ring,
-            front,
-            sent,
-            lost,
-            bytes,
-            rtt,
-            message,
-            expected: self.expected,
-            flushed,
-        }
-    }
-
-    // The same packets and counts, with the other fields replaced.
-    pub fn with_others(
-        self,
-        rtt: Rtt,
-        message: MsgNumber,
-        expected: u64,
-        flushed: Flushed,
-    ) -> SendBuffer
-        ensures { result ≡ with_others self rtt message expected flushed }
-    {
-        let ring = self.ring;
-        let front = self.front;
-        SendBuffer {
-            ring,
-            front,
-            sent: self.sent,
-            lost: self.lost,
-            bytes: self.bytes,
-            rtt,
-            message,
-            expected,
-            flushed,
+            flushed: None,
         }
     }
 
@@ -150,8 +97,7 @@ impl SendBuffer {
     pub fn len(self) -> usize
         ensures { result ≡ self.ring.len }
     {
-        let ring = self.ring;
-        ring.len
+        self.ring.len
     }
 
     // The byte count.
@@ -179,16 +125,14 @@ impl SendBuffer {
     pub fn is_flushed(self) -> bool
         ensures { result ≡ is_flushed self }
     {
-        let ring = self.ring;
-        (self.lost == 0) & (ring.len == 0)
+        self.lost == 0 && self.ring.len == 0
     }
 
     // Whether a packet is unsent, or a number is on the loss list.
     pub fn has_packets_to_send(self) -> bool
         ensures { result ≡ has_packets_to_send self }
     {
-        let ring = self.ring;
-        ((self.sent as usize) < ring.len) | !(self.lost == 0)
+        (self.sent as usize) < self.ring.len || self.lost != 0
     }
 
     // The back packet's time less the front's; 0 if that is negative or nothing is buffered.
@@ -196,16 +140,12 @@ impl SendBuffer {
         requires { Placed self.ring ring.now }
         ensures { result ≡ time_of (packets_of self.ring ring.now) }
     {
-        let at = self.ring;
-        if at.len < 1 {
+        if self.ring.len == 0 {
             return 0;
         }
-        let front = at.entry(ring, 0);
-        let back = at.entry(ring, at.len - 1);
-        if back.time < front.time {
-            return 0;
-        }
-        back.time - front.time
+        let front = self.ring.entry(ring, 0);
+        let back = self.ring.entry(ring, self.ring.len - 1);
+        back.time.saturating_sub(front.time)
     }
 
     // The sum of the wire sizes of the first `k` packets.
@@ -213,13 +153,9 @@ impl SendBuffer {
         requires { Weighable (settings_of c) self.ring ring.now k }
         ensures { result ≡ wire_sizes (settings_of c) (take k (packets_of self.ring ring.now)) }
     {
-        let at = self.ring;
-        let mut sum: u64 = 0;
-        let mut i = 0;
-        while i < k {
-            let e = at.entry(ring, i);
-            sum += e.len + c.overhead as u64;
-            i += 1;
+        let mut sum = 0;
+        for i in 0..k {
+            sum += self.ring.entry(ring, i).len + c.overhead as u64;
         }
         sum
     }
@@ -230,12 +166,15 @@ impl SendBuffer {
         requires { Removable self lost.now k }
         ensures { Removed self lost.now k bytes result }
     {
-        let ring = self.ring;
-        let front = self.front;
-        let to = numbers::plus(front, k as u32);
-        let listed = loss_list::remove_below(lost, self.lost, front, to);
-        let rest = ring.remove_front(k);
-        let sent = less(self.sent, k as u32);
-        self.put(rest, to, sent, listed, bytes)
+        let to = numbers::plus(self.front, k as u32);
+        let listed = loss_list::remove_below(&lost[..self.lost], self.front, to);
+        SendBuffer {
+            ring: self.ring.remove_front(k),
+            front: to,
+            sent: self.sent.saturating_sub(k as u32),
+            lost: listed,
+            bytes,
+            ..self
+        }
     }
 }

@@ -7,6 +7,7 @@ ghost use Rattle.buffer_nak.specs.Report.{enter_run, left, add};
 ghost use Rattle.buffer_nak.specs.Report.Laws.{entered_to, Readable, Reportable};
 
 use buffer::SendBuffer;
+use loss_words::runs::Kind;
 use rules_numbers::SeqNumber;
 
 // The books afterwards, and how many runs the answer has.
@@ -16,7 +17,8 @@ pub struct Reported {
     pub runs: usize,
 }
 
-// Enters the numbers of a run into the loss list if they are Added. Returns the list's new length.
+// Enters the numbers of a run into the loss list if they are Added. Returns the list's new length. The kind is a number,
+// as it stands in C's list; area and length are `loss_list::enter`'s.
 fn enter_run(
     lost: &mut [u32],
     len: usize,
@@ -28,24 +30,21 @@ fn enter_run(
     requires { Fits len (enter_run front.0 kind first end (take len lost.old)) lost.old }
     ensures { Left result lost.new (enter_run front.0 kind first end (take len lost.old)) lost.old }
 {
-    if kind == loss_words::runs::ADDED {
+    if kind == Kind::Added as u32 {
         let count = numbers::distance(SeqNumber(first), SeqNumber(end));
         return loss_list::enter(lost, len, front, SeqNumber(first), count);
     }
     len
 }
 
-// Enters the Added numbers of the `count` runs in `runs`. Returns the list's new length.
+// Enters the Added numbers of the `count` runs in `runs`, three words each, as C has them. Returns the list's new length.
 fn enter_runs(runs: &[u32], count: usize, front: SeqNumber, lost: &mut [u32], len: usize) -> usize
     requires { Readable runs.now count front.0 len lost.old }
     ensures { Left result lost.new (entered_to front.0 runs.now count (take len lost.old)) lost.old }
 {
     let mut n = len;
-    let mut i = 0;
-    while i < count {
-        let at = 3 * i;
-        n = enter_run(lost, n, front, runs[at], runs[at + 1], runs[at + 2]);
-        i += 1;
+    for run in runs[..3 * count].chunks_exact(3) {
+        n = enter_run(lost, n, front, run[0], run[1], run[2]);
     }
     n
 }
@@ -56,11 +55,10 @@ pub fn add_to_loss_list(b: SendBuffer, words: &[u32], lost: &mut [u32], out: &mu
     requires { Reportable b words.now lost.old out.old }
     ensures { left result lost.new out.new ≡ add b words.now lost.old out.old }
 {
-    let front = b.front;
-    let runs = loss_words::runs::write_runs(words, front, b.sent, out);
-    let n = enter_runs(out, runs, front, lost, b.lost);
+    let runs = loss_words::runs::write_runs(words, b.front, b.sent, out);
+    let n = enter_runs(out, runs, b.front, lost, b.lost);
     Reported {
-        buffer: b.put(b.ring, front, b.sent, n, b.bytes),
+        buffer: SendBuffer { lost: n, ..b },
         runs,
     }
 }

@@ -18,7 +18,7 @@ pub mod OnePacket
 pub mod Parts
 pub mod Rest
 pub mod Whole
-use Rattle.std.specs.Prelude.{cond, List, [], ℕ, zero, suc, ◌+◌, ◌-◌, ◌*◌, leb, length, take, drop}
+use Rattle.std.specs.Prelude.{cond, List, [], ℕ, zero, suc, ◌+◌, ◌-◌, ◌*◌, leb, length, take, drop, None}
 use Rattle.std.proofs.Math.Seq.{paste}
 use Rattle.rules_numbers.specs.Modular.{msgs, plus}
 use Rattle.rules_packets.specs.Header.{place_bits}
@@ -28,7 +28,6 @@ use Rattle.ring.specs.Entry.{entry, write_e}
 use Rattle.ring.specs.Ring.{slot_of, pushed}
 use Rattle.rules.specs.Settings.{Settings}
 use Rattle.rules.specs.Sender.{Packet, wire_sizes}
-use Rattle.buffer.specs.declared.Flushed.TheVariants.{Nothing}
 use Rattle.buffer.specs.declared.SendBuffer.{SendBuffer}
 use Rattle.buffer.specs.State.{State, state, view, put}
 use Rattle.buffer.specs.Removal.{removed}
@@ -109,7 +108,7 @@ begun b = record {
   rtt = b.rtt;
   message = record { 0 = plus msgs b.message.0 1 };
   expected = b.expected;
-  flushed = Nothing;
+  flushed = None;
 }
 
 abbrev pub none_yet : SendBuffer → Pushed

@@ -12,12 +12,13 @@ ghost use Rattle.buffer_push.specs.Message.Parts.{Roomable, Appendable, Appended
 ghost use Rattle.buffer_push.specs.Message.Rest.{Next};
 ghost use Rattle.buffer_push.specs.Message.Whole.{Sendable};
 
-use buffer::{Flushed, SendBuffer, Settings};
+use buffer::{SendBuffer, Settings};
 use ring::{Entry, Ring};
 use rules_numbers::MsgNumber;
 use rules_packets::Piece;
 
-// The books after a message, and what the call answers: packets made, packets removed, wire bytes removed.
+// The books after a message, and what the call answers: packets made, packets removed, wire bytes removed. No type
+// shared with a run's answer: what they count differs.
 #[derive(Clone, Copy)]
 pub struct Pushed {
     pub buffer: SendBuffer,
@@ -26,7 +27,8 @@ pub struct Pushed {
     pub bytes: u64,
 }
 
-// Where the payload of the next packet goes in the store.
+// Where the payload of the next packet goes in the store. C lends entries and payloads as two areas, so one slot serves
+// both.
 fn next_place(at: Ring, size: usize) -> usize
     requires { (at.slot < at.cap) × (at.len ≤ at.cap) × (at.cap ≤ 8192) × (size ≤ 1456) }
     ensures { result ≡ slot_of at at.len * size }
@@ -34,15 +36,14 @@ fn next_place(at: Ring, size: usize) -> usize
     at.slot_of(at.len) * size
 }
 
-// The entry of a pushed packet, which is unsent.
+// The entry of a pushed packet, which is unsent. Not a `From`: it takes three values.
 fn entry_of(time: u64, number: MsgNumber, piece: Piece) -> Entry
     ensures { result ≡ entry time number.0 (place_bits piece.place) piece.len 0 0 }
 {
-    let place = piece.place;
     Entry {
         time,
         message: number.0 as u64,
-        place: encapsulate::place_bits(place) as u64,
+        place: encapsulate::place_bits(piece.place) as u64,
         len: piece.len as u64,
         count: 0,
         resend: 0,
@@ -56,17 +57,16 @@ fn make_room(p: Pushed, c: Settings, ring: &[u64], lost: &[u32]) -> Pushed
         ≡ roomed (settings_of c) (work p ring.now lost.now) }
 {
     let b = p.buffer;
-    let at = b.ring;
-    if at.cap <= at.len {
-        let wire = b.wire_sizes(c, ring, 1);
-        return Pushed {
-            buffer: b.remove(lost, 1, b.bytes - wire),
-            made: p.made,
-            removed: p.removed + 1,
-            bytes: p.bytes + wire,
-        };
+    if b.ring.len < b.ring.cap {
+        return p;
     }
-    p
+    let wire = b.wire_sizes(c, ring, 1);
+    Pushed {
+        buffer: b.remove(lost, 1, b.bytes - wire),
+        removed: p.removed + 1,
+        bytes: p.bytes + wire,
+        ..p
+    }
 }
 
 // Appends a packet at the back; there is room.
@@ -75,14 +75,12 @@ fn append(p: Pushed, c: Settings, e: Entry, ring: &mut [u64]) -> Pushed
     ensures { Appended (settings_of c) e p ring.old result ring.new }
 {
     let mut buffer = p.buffer;
-    let at = buffer.ring;
-    buffer.ring = at.push_back(ring, e);
-    buffer.bytes = buffer.bytes + (e.len + c.overhead as u64);
+    buffer.ring = buffer.ring.push_back(ring, e);
+    buffer.bytes += e.len + c.overhead as u64;
     Pushed {
         buffer,
         made: p.made + 1,
-        removed: p.removed,
-        bytes: p.bytes,
+        ..p
     }
 }
 
@@ -105,32 +103,21 @@ fn push_data(
     let size = c.size as usize;
     let piece = encapsulate::cut(payload.len(), size, n, p.made);
     let q = make_room(p, c, ring, lost);
-    let b = q.buffer;
-    let at = next_place(b.ring, size);
-    let start = piece.start;
-    octets::copy_in(store, at, &payload[start..], piece.len);
+    let at = next_place(q.buffer.ring, size);
+    octets::copy_in(store, at, &payload[piece.start..], piece.len);
     append(q, c, entry_of(time, number, piece), ring)
 }
 
 // Gives the message its number; a flushed payload is no longer held.
+#[tactic(auto, unfolding(crate::specs::Message::begun))]
 fn begin(b: SendBuffer) -> Pushed
     ensures { result ≡ none_yet (begun b) }
 {
-    let ring = b.ring;
-    let front = b.front;
-    let rtt = b.rtt;
-    let number = b.message;
     Pushed {
         buffer: SendBuffer {
-            ring,
-            front,
-            sent: b.sent,
-            lost: b.lost,
-            bytes: b.bytes,
-            rtt,
-            message: numbers::next_message(number),
-            expected: b.expected,
-            flushed: Flushed::Nothing,
+            message: numbers::next_message(b.message),
+            flushed: None,
+            ..b
         },
         made: 0,
         removed: 0,
@@ -153,10 +140,9 @@ pub fn push_message(
         ≡ message (settings_of c) time payload.now (state b ring.old lost.now) store.old }
 {
     let n = encapsulate::count(payload.len(), c.size as usize);
-    let number = b.message;
     let mut p = begin(b);
-    while p.made < n {
-        p = push_data(p, c, time, number, payload, n, ring, lost, store);
+    for _ in 0..n {
+        p = push_data(p, c, time, b.message, payload, n, ring, lost, store);
     }
     p
 }

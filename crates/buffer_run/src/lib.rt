@@ -2,16 +2,19 @@
 // decides which rule applies, run_effects does what the rule says, and this crate is the loop over both.
 #![tactic(auto)]
 
-ghost use Rattle.std.specs.Prelude.{◌≡◌, ◌-◌};
+ghost use Rattle.std.specs.Prelude.{◌≡◌, true, false};
+ghost use Rattle.std.specs.ControlFlow.{MatchControlFlow};
 ghost use Rattle.buffer.specs.State.{settings_of, state};
 ghost use Rattle.buffer_run.specs.Run.{walk, run};
 ghost use Rattle.buffer_run.specs.Run.Turns.{Turning, Done, Swept, Runnable};
 
 use buffer::{SendBuffer, Settings};
 use run_choice::Rule;
-use run_effects::{Written, leaving, resend, unsent, waits};
+use run_effects::{Records, leaving, resend, unsent, waits};
+use std::ops::ControlFlow;
 
-// The books after a run, how many records it wrote, and the budget left.
+// The books after a run, how many records it wrote, and the budget left. No type shared with a message's: what they count
+// differs.
 #[derive(Clone, Copy)]
 pub struct Ran {
     pub buffer: SendBuffer,
@@ -19,20 +22,8 @@ pub struct Ran {
     pub left: u32,
 }
 
-// What is left after a turn, and whether it ends the run.
-#[derive(Clone, Copy)]
-struct Step {
-    written: Written,
-    ends: bool,
-}
-
-fn turned(written: Written, ends: bool) -> Step
-    ensures { result ≡ record { written = written; ends = ends } }
-{
-    Step { written, ends }
-}
-
-// Does the first of rules 2 to 7 that applies.
+// Does the first of rules 2 to 7 that applies. `Break` says that it ends the run. A match, not closures: the steps borrow
+// different areas.
 fn turn(
     b: SendBuffer,
     c: Settings,
@@ -40,43 +31,25 @@ fn turn(
     draining: bool,
     ring: &mut [u64],
     lost: &[u32],
-    out: &mut [u8],
-    n: usize,
-) -> Step
-    requires { Turning (settings_of c) ts_now (state b ring.old lost.now) n out.old }
-    ensures { Done (settings_of c) ts_now draining (state b ring.old lost.now) n out.old (state result.written.buffer ring.new lost.now) result.written.count result.ends out.new }
+    written: &mut Records,
+) -> ControlFlow<SendBuffer, SendBuffer>
+    requires { Turning (settings_of c) ts_now (state b ring.old lost.now) written.old }
+    ensures { MatchControlFlow result
+        (λ a. Done (settings_of c) ts_now draining (state b ring.old lost.now) written.old (state a ring.new lost.now) false written.new)
+        (λ a. Done (settings_of c) ts_now draining (state b ring.old lost.now) written.old (state a ring.new lost.now) true written.new) }
 {
     match run_choice::first_rule(b, c, ts_now, draining, ring) {
-        Rule::Loss => turned(
-            resend::send_next_lost_packet(b, ts_now, ring, lost, out, n),
-            false,
-        ),
-        Rule::Due(i) => turned(
-            resend::send_next_rto_packet(b, ts_now, i, ring, out, n),
-            false,
-        ),
-        Rule::Window => turned(waits::wait_for_ack(b, out, n), true),
-        Rule::Unsent => turned(unsent::send_unsent(b, ts_now, ring, out, n), false),
-        Rule::Flush => turned(leaving::flush_on_close(b, c, ring, lost, out, n), false),
-        Rule::Input => turned(waits::wait_for_input(b, out, n), true),
+        Rule::Loss => {
+            ControlFlow::Continue(resend::send_next_lost_packet(b, ts_now, ring, lost, written))
+        }
+        Rule::Due(i) => {
+            ControlFlow::Continue(resend::send_next_rto_packet(b, ts_now, i, ring, written))
+        }
+        Rule::Window => ControlFlow::Break(waits::wait_for_ack(b, written)),
+        Rule::Unsent => ControlFlow::Continue(unsent::send_unsent(b, ts_now, ring, written)),
+        Rule::Flush => ControlFlow::Continue(leaving::flush_on_close(b, c, ring, lost, written)),
+        Rule::Input => ControlFlow::Break(waits::wait_for_input(b, written)),
     }
-}
-
-// A run without budget.
-fn nothing(buffer: SendBuffer) -> Ran
-    ensures { result ≡ record { buffer = buffer; records = 0; left = 0 } }
-{
-    Ran {
-        buffer,
-        records: 0,
-        left: 0,
-    }
-}
-
-fn less(a: u32, b: usize) -> u32
-    ensures { result ≡ a - b }
-{
-    if (a as usize) < b { 0 } else { a - b as u32 }
 }
 
 // Does rule 1, if the front is late.
@@ -86,19 +59,16 @@ fn sweep(
     ts_now: u64,
     ring: &[u64],
     lost: &[u32],
-    out: &mut [u8],
-) -> Written
-    requires { Turning (settings_of c) ts_now (state b ring.now lost.now) 0 out.old }
-    ensures { Swept (settings_of c) ts_now (state b ring.now lost.now) out.old (state result.buffer ring.now lost.now) result.count out.new }
+    written: &mut Records,
+) -> SendBuffer
+    requires { Turning (settings_of c) ts_now (state b ring.now lost.now) written.old }
+    ensures { Swept (settings_of c) ts_now (state b ring.now lost.now) written.old (state result ring.now lost.now) written.new }
 {
     let k = run_choice::late_packets(b, c, ts_now, ring);
     if k < 1 {
-        return Written {
-            buffer: b,
-            count: 0,
-        };
+        return b;
     }
-    leaving::drop_too_late_packets(b, k, lost, out, 0)
+    leaving::drop_too_late_packets(b, k, lost, written)
 }
 
 // A run: writes to `out`, as 24-byte records, what to send, drop and wait for.
@@ -117,24 +87,34 @@ pub fn next_snd_actions(
         ≡ run (settings_of c) ts_now draining budget (state b ring.old lost.now) out.old }
 {
     if budget < 1 {
-        return nothing(b);
+        return Ran {
+            buffer: b,
+            records: 0,
+            left: 0,
+        };
     }
-    let first = sweep(b, c, ts_now, ring, lost, out);
-    let mut here = first.buffer;
-    let mut n = first.count;
+    let mut written = Records {
+        list: out,
+        count: 0,
+    };
+    let mut here = sweep(b, c, ts_now, ring, lost, &mut written);
     let mut left = budget;
+    // Not a `for`: document 01 names this form, a loop that breaks with the number of records.
     let records = loop {
         if left < 1 {
-            break n;
+            break written.count;
         }
-        let t = turn(here, c, ts_now, draining, ring, lost, out, n);
-        let w = t.written;
-        here = w.buffer;
-        if t.ends {
-            break w.count;
+        let before = written.count;
+        match turn(here, c, ts_now, draining, ring, lost, &mut written) {
+            ControlFlow::Break(after) => {
+                here = after;
+                break written.count;
+            }
+            ControlFlow::Continue(after) => {
+                left = (left as usize).saturating_sub(written.count - before) as u32;
+                here = after;
+            }
         }
-        left = less(left, w.count - n);
-        n = w.count;
     };
     Ran {
         buffer: here,

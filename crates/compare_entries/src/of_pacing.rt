@@ -2,8 +2,9 @@
 ghost use Rattle.std.specs.Prelude.{◌≡◌};
 ghost use Rattle.compare_entries.specs.PacingAnswers.{fresh, pacing_made, pacing_paced, pacing_new, pacing_on_input};
 
-use host_structs::pacings::{FlatPacing, mode_of, pacing_from};
-use rules_pacing::{Made, Paced, RateEstimation, SenderCongestionControl};
+use host_structs::pacings::{FlatPacing, mode_of};
+use rules_pacing::SenderCongestionControl;
+use rules_refusals::Refusal;
 
 // Pacing after the call, and the new period in microseconds; 0 means none, since a period is at least 1.
 #[repr(C)]
@@ -14,16 +15,18 @@ pub struct PacingAnswer {
     pub pacing: FlatPacing,
 }
 
-fn made(given: FlatPacing, a: Made) -> PacingAnswer
+// Functions, not `From`: what was given is in the answer to a refused call.
+#[tactic(auto, unfolding(crate::specs::PacingAnswers::pacing_made))]
+fn made(given: FlatPacing, a: Result<SenderCongestionControl, Refusal>) -> PacingAnswer
     ensures { result ≡ pacing_made given a }
 {
     match a {
-        Made::Control(c) => PacingAnswer {
+        Ok(c) => PacingAnswer {
             refusal: 0,
             period: 0,
-            pacing: pacing_from(c),
+            pacing: FlatPacing::from(c),
         },
-        Made::Refused(refusal) => PacingAnswer {
+        Err(refusal) => PacingAnswer {
             refusal: refusals::number(refusal),
             period: 0,
             pacing: given,
@@ -31,21 +34,20 @@ fn made(given: FlatPacing, a: Made) -> PacingAnswer
     }
 }
 
-fn paced(given: FlatPacing, a: Paced) -> PacingAnswer
+#[tactic(auto, unfolding(crate::specs::PacingAnswers::pacing_paced))]
+fn paced(
+    given: FlatPacing,
+    a: Result<(Option<u64>, SenderCongestionControl), Refusal>,
+) -> PacingAnswer
     ensures { result ≡ pacing_paced given a }
 {
     match a {
-        Paced::Silent(c) => PacingAnswer {
+        Ok((period, c)) => PacingAnswer {
             refusal: 0,
-            period: 0,
-            pacing: pacing_from(c),
+            period: period.unwrap_or(0),
+            pacing: FlatPacing::from(c),
         },
-        Paced::Period(period, c) => PacingAnswer {
-            refusal: 0,
-            period,
-            pacing: pacing_from(c),
-        },
-        Paced::Refused(refusal) => PacingAnswer {
+        Err(refusal) => PacingAnswer {
             refusal: refusals::number(refusal),
             period: 0,
             pacing: given,
@@ -56,23 +58,16 @@ fn paced(given: FlatPacing, a: Paced) -> PacingAnswer
 fn fresh(mode: u32, rate: u64, overhead: u64) -> FlatPacing
     ensures { result ≡ fresh mode rate overhead }
 {
-    let none = RateEstimation {
-        count: 0,
-        mean: 0,
-        variance: 0,
-    };
     FlatPacing {
         mode,
-        begun: 0,
         rate,
         overhead,
-        next: 0,
-        packets: none,
-        bytes: none,
+        ..Default::default()
     }
 }
 
 // Pacing of a new sender.
+#[tactic(auto, unfolding(crate::specs::PacingAnswers::pacing_new))]
 pub fn compare_pacing_new(mode: u32, rate: u64, overhead: u64) -> PacingAnswer
     ensures { result ≡ pacing_new mode rate overhead }
 {
@@ -81,6 +76,7 @@ pub fn compare_pacing_new(mode: u32, rate: u64, overhead: u64) -> PacingAnswer
 }
 
 // Packets and payload bytes that come in at `now`.
+#[tactic(auto, unfolding(crate::specs::PacingAnswers::pacing_on_input))]
 pub fn compare_pacing_on_input(
     pacing: FlatPacing,
     now: u64,
@@ -91,6 +87,6 @@ pub fn compare_pacing_on_input(
 {
     paced(
         pacing,
-        pacing::on_input(pacing.control(), now, packets, bytes),
+        pacing::on_input(SenderCongestionControl::from(pacing), now, packets, bytes),
     )
 }

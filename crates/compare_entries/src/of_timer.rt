@@ -4,8 +4,9 @@ ghost use Rattle.rules_timers.specs.Timer.{made, period_of, next_instant, reset,
 ghost use Rattle.host_timers.specs.TimersAnswers.{blank, nanoseconds};
 ghost use Rattle.compare_entries.specs.TimerAnswers.{timer_set, timer_checked};
 
-use host_timers::{NanosecondsAnswer, nanoseconds, told};
-use rules_timers::{Timer, TimerChecked, TimerSet};
+use host_timers::{NanosecondsAnswer, told};
+use rules_refusals::Refusal;
+use rules_timers::{Ticked, Timer};
 
 // The answer of a call that makes, sets or checks a timer: the timer after it, and the periods elapsed, 0 for none.
 #[repr(C)]
@@ -16,16 +17,18 @@ pub struct TimerAnswer {
     pub timer: Timer,
 }
 
-fn timer_set(before: Timer, a: TimerSet) -> TimerAnswer
+// Beside `host_timers::timers_set`, since C's struct here holds one timer.
+#[tactic(auto, unfolding(crate::specs::TimerAnswers::timer_set))]
+fn timer_set(before: Timer, a: Result<Timer, Refusal>) -> TimerAnswer
     ensures { result ≡ timer_set before a }
 {
     match a {
-        TimerSet::Done(timer) => TimerAnswer {
+        Ok(timer) => TimerAnswer {
             refusal: 0,
             periods: 0,
             timer,
         },
-        TimerSet::Refused(refusal) => TimerAnswer {
+        Err(refusal) => TimerAnswer {
             refusal: refusals::number(refusal),
             periods: 0,
             timer: before,
@@ -33,20 +36,17 @@ fn timer_set(before: Timer, a: TimerSet) -> TimerAnswer
     }
 }
 
-fn timer_checked(before: Timer, a: TimerChecked) -> TimerAnswer
+#[tactic(auto, unfolding(crate::specs::TimerAnswers::timer_checked))]
+fn timer_checked(before: Timer, a: Result<Ticked, Refusal>) -> TimerAnswer
     ensures { result ≡ timer_checked before a }
 {
     match a {
-        TimerChecked::Done(ticked) => {
-            let timer = ticked.timer;
-            let elapsed = ticked.elapsed;
-            TimerAnswer {
-                refusal: 0,
-                periods: told(elapsed),
-                timer,
-            }
-        }
-        TimerChecked::Refused(refusal) => TimerAnswer {
+        Ok(ticked) => TimerAnswer {
+            refusal: 0,
+            periods: told(ticked.elapsed),
+            timer: ticked.timer,
+        },
+        Err(refusal) => TimerAnswer {
             refusal: refusals::number(refusal),
             periods: 0,
             timer: before,
@@ -58,20 +58,19 @@ fn timer_checked(before: Timer, a: TimerChecked) -> TimerAnswer
 pub fn compare_timer_new(now: u64, period: u64) -> TimerAnswer
     ensures { result ≡ timer_set blank (made now period) }
 {
-    let blank = Timer { period: 0, last: 0 };
-    timer_set(blank, timer::new(now, period))
+    timer_set(Timer::default(), timer::new(now, period))
 }
 
 pub fn compare_timer_period(timer: Timer) -> NanosecondsAnswer
     ensures { result ≡ nanoseconds (period_of timer) }
 {
-    nanoseconds(timer::period(timer))
+    timer::period(timer).into()
 }
 
 pub fn compare_timer_next_instant(timer: Timer) -> NanosecondsAnswer
     ensures { result ≡ nanoseconds (next_instant timer) }
 {
-    nanoseconds(timer::next_instant(timer))
+    timer::next_instant(timer).into()
 }
 
 pub fn compare_timer_reset(timer: Timer, now: u64) -> TimerAnswer

@@ -9,8 +9,7 @@ use Rattle.std.specs.Prelude.{◌≡◌, ℕ, ◌+◌, ◌-◌, ◌*◌, ◌/◌
 use Rattle.std.proofs.Common.{zero-le, le-div_iff_mul-le, div-lt_iff_lt-mul, mul-le-mul_left, add-mul, one-mul, mul-one, zero-mul, arith, ltb-false}
 use Rattle.std.proofs.Math.Decide.{dec_le}
 use Rattle.rules_refusals.specs.declared.Refusal.TheVariants.{BadSetting, TooLong}
-use Rattle.rules_refusals.specs.declared.Verdict.TheVariants.{Accepted}
-use Rattle.rules_refusals.specs.Verdict.{when}
+use Rattle.rules_refusals.specs.Verdict.{accepted, when}
 use Rattle.refusals.specs.Laws.{when-accepted}
 use Rattle.rules_packets.specs.Split.{count, judge, start_of, length_of}
 
@@ -30,12 +29,12 @@ pub record Cut (size len n k : ℕ) : Type 0 where
   pub within : k < n
   pub few : n ≤ 1_048_576
 
-pub judge-sized : (size len : ℕ) → judge size len ≡ Accepted → Sized size len
+pub judge-sized : (size len : ℕ) → judge size len ≡ accepted → Sized size len
 unfolding judge
 judge-sized size len e =
-    let low = when-accepted (ltb size 1) BadSetting (when (ltb 1_456 size) BadSetting (when (ltb 1_048_576 len) TooLong Accepted)) e in
-    let high = when-accepted (ltb 1_456 size) BadSetting (when (ltb 1_048_576 len) TooLong Accepted) low.1 in
-    let short = when-accepted (ltb 1_048_576 len) TooLong Accepted high.1 in
+    let low = when-accepted (ltb size 1) BadSetting (when (ltb 1_456 size) BadSetting (when (ltb 1_048_576 len) TooLong accepted)) e in
+    let high = when-accepted (ltb 1_456 size) BadSetting (when (ltb 1_048_576 len) TooLong accepted) low.1 in
+    let short = when-accepted (ltb 1_048_576 len) TooLong accepted high.1 in
     record { low = ltb-false _ _ low.0; high = ltb-false _ _ high.0; short = ltb-false _ _ short.0 }
 
 -- ceil(len / size) is at most len, where size is at least 1

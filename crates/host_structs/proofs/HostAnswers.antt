@@ -1,24 +1,20 @@
 -- What a host can tell from an answer.
 --   refused-some                          a refusal's number is not 0, so 0 means that the call was accepted
 --   message-after, nak-after, run-after   the sender in the answer is the sender after the call
-use Rattle.std.specs.Prelude.{◌≡◌, ◌≤◌}
+use Rattle.std.specs.Prelude.{◌≡◌, ◌≤◌, Result, Ok, Err, ℕ}
 use Rattle.std.proofs.Math.Path.{refl}
 use Rattle.std.proofs.Common.{arith}
 use Rattle.rules_refusals.specs.declared.Refusal.{Refusal}
 use Rattle.rules_refusals.specs.declared.Refusal.TheVariants.{BadSetting, BadStore, BadState, BadTime, TooLong, CountFull, BadNumber, BadRtt, Empty, InvalidAck, StaleFullAck, BadNak, NoRoom, NotHeld}
-use Rattle.sender.specs.declared.Messaged.{Messaged}
-use Rattle.sender.specs.declared.Messaged.TheVariants as messaged
 use Rattle.sender.specs.Calls.Stands as Message
-use Rattle.nak.specs.declared.Reported.{Reported}
-use Rattle.nak.specs.declared.Reported.TheVariants as reported
 use Rattle.nak.specs.Naks.Stands as Nak
-use Rattle.run.specs.declared.Ran.{Ran}
-use Rattle.run.specs.declared.Ran.TheVariants as ran
 use Rattle.run.specs.Runs.Stands as Run
 use Rattle.host_structs.specs.declared.senders.FlatSender.{FlatSender}
 use Rattle.host_structs.specs.Senders.{sender_of}
 use Rattle.host_structs.proofs.ReadBack.{read_back}
 use Rattle.host_structs.specs.Replies.{refused_of, message_of, nak_of, run_of}
+use Rattle.sender.specs.declared.Answer.{Answer}
+use Rattle.sender.specs.declared.Sender.{Sender}
 
 pub refused-some : (r : Refusal) → 1 ≤ (refused_of r).number
 unfolding refused_of
@@ -38,17 +34,17 @@ refused-some NoRoom = omega arith
 refused-some NotHeld = omega arith
 
 module _ (f : FlatSender) where
-  pub message-after : (a : Messaged) → sender_of (message_of f a).sender ≡ Message.sender_after (sender_of f) a
+  pub message-after : (a : Result (Sender × Answer) Refusal) → sender_of (message_of f a).sender ≡ Message.sender_after (sender_of f) a
   unfolding message_of
-  message-after (messaged.Done s a) = read_back s
-  message-after (messaged.Refused r) = refl
+  message-after (Ok (s, a)) = read_back s
+  message-after (Err r) = refl
 
-  pub nak-after : (a : Reported) → sender_of (nak_of f a).sender ≡ Nak.sender_after (sender_of f) a
+  pub nak-after : (a : Result (Sender × ℕ) Refusal) → sender_of (nak_of f a).sender ≡ Nak.sender_after (sender_of f) a
   unfolding nak_of
-  nak-after (reported.Done s n) = read_back s
-  nak-after (reported.Refused r) = refl
+  nak-after (Ok (s, n)) = read_back s
+  nak-after (Err r) = refl
 
-  pub run-after : (a : Ran) → sender_of (run_of f a).sender ≡ Run.sender_after (sender_of f) a
+  pub run-after : (a : Result (Sender × ℕ × ℕ) Refusal) → sender_of (run_of f a).sender ≡ Run.sender_after (sender_of f) a
   unfolding run_of
-  run-after (ran.Done s n left) = read_back s
-  run-after (ran.Refused r) = refl
+  run-after (Ok (s, n, left)) = read_back s
+  run-after (Err r) = refl

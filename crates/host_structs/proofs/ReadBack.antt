@@ -3,20 +3,16 @@
 --   flushed-back, next-back, mode-back, read-back   a sender is read back from its numbers
 --   held_kept, next-kept, mode-kept, kept_back      numbers that keep the book rules are those of the sender they encode
 --   NextSame, ModeSame                              the same for next and for the mode, field by field
-use Rattle.std.specs.Prelude.{◌≡◌, refl, Bool, true, false, ◌&&◌, cond, List, ℕ, eqb, length}
+use Rattle.std.specs.Prelude.{◌≡◌, refl, Bool, true, false, ◌&&◌, cond, List, ℕ, eqb, length, Option, Some, None}
 use Rattle.std.proofs.Common.{sym, eqb-true}
 use Rattle.std.proofs.Math.Bool.{and-eq-true_iff}
 use Rattle.rules_pacing.specs.declared.LiveBandwidthMode.{LiveBandwidthMode}
 use Rattle.rules_pacing.specs.declared.LiveBandwidthMode.TheVariants.{Input, Estimated, Max, Unlimited}
-use Rattle.rules_pacing.specs.declared.Next.{Next}
-use Rattle.rules_pacing.specs.declared.Next.TheVariants.{Unset, At}
 use Rattle.rules_pacing.specs.Kept as Pacing
 use Rattle.rules_pacing.specs.Kept.{next_in_range}
 use Rattle.rules_pacing.specs.Period.{mode_in_range}
 use Rattle.rules.specs.Settings.{Settings}
-use Rattle.buffer.specs.declared.Flushed.{Flushed}
-use Rattle.buffer.specs.declared.Flushed.TheVariants.{Nothing, Held}
-use Rattle.buffer.specs.State.{state, settings_of}
+use Rattle.buffer.specs.State.{state, settings_of, flushed_packet}
 use Rattle.book_rules.specs.Kept as Buffer
 use Rattle.book_rules.specs.Kept.{flushed_kept, numbers_kept, areas_kept}
 use Rattle.book_rules.specs.Kept.Laws.{numbers_facts}
@@ -25,18 +21,19 @@ use Rattle.sender.specs.SenderAndAreas.{books, kept}
 use Rattle.host_structs.specs.declared.senders.HeldPacket.{HeldPacket}
 use Rattle.host_structs.specs.declared.senders.FlatSender.{FlatSender}
 use Rattle.host_structs.specs.Senders.{no_packet, flushed_of, held_from, next_of, begun_from, time_from, mode_of, code_from, rate_from, overhead_from, sender_of, flat_from}
+use Rattle.buffer.specs.declared.FlushedPacket.{FlushedPacket}
 
 -- ## What is written is read back
 
-pub flushed-back : (f : Flushed) → flushed_of (held_from f) ≡ f
+pub flushed-back : (f : Option FlushedPacket) → flushed_of (held_from f) ≡ f
 unfolding flushed_of
-flushed-back Nothing = refl
-flushed-back (Held n slot len) = refl
+flushed-back None = refl
+flushed-back (Some p) = refl
 
-pub next-back : (n : Next) → next_of (begun_from n) (time_from n) ≡ n
+pub next-back : (n : Option ℕ) → next_of (begun_from n) (time_from n) ≡ n
 unfolding next_of
-next-back Unset = refl
-next-back (At t) = refl
+next-back None = refl
+next-back (Some t) = refl
 
 pub mode-back : (m : LiveBandwidthMode) → mode_of (code_from m) (rate_from m) (overhead_from m) ≡ m
 unfolding mode_of
@@ -63,8 +60,8 @@ unfolding flushed_of
 held_kept c h = go (eqb h.held 1) refl (eqb h.held 0 && eqb h.number 0 && eqb h.slot 0 && eqb h.len 0) refl
   where
     go : (a : Bool) → eqb h.held 1 ≡ a → (b : Bool) → (eqb h.held 0 && eqb h.number 0 && eqb h.slot 0 && eqb h.len 0) ≡ b
-        → flushed_kept c (cond a (Held (record { 0 = h.number }) h.slot h.len) (cond b Nothing no_packet)) ≡ true
-        → held_from (cond a (Held (record { 0 = h.number }) h.slot h.len) (cond b Nothing no_packet)) ≡ h
+        → flushed_kept c (cond a (Some (flushed_packet (record { 0 = h.number }) h.slot h.len)) (cond b None no_packet)) ≡ true
+        → held_from (cond a (Some (flushed_packet (record { 0 = h.number }) h.slot h.len)) (cond b None no_packet)) ≡ h
     go true e b d k = rw (eqb-true h.held 1 e)
     go false e true d k =
         let three = left (eqb h.held 0 && eqb h.number 0 && eqb h.slot 0) (eqb h.len 0) d in
@@ -77,7 +74,7 @@ held_kept c h = go (eqb h.held 1) refl (eqb h.held 0 && eqb h.number 0 && eqb h.
         )
     go false e false d k = cc
 
-pub record NextSame (begun next : ℕ) (n : Next) : Type 0 where
+pub record NextSame (begun next : ℕ) (n : Option ℕ) : Type 0 where
   pub begun-is : begun_from n ≡ begun
   pub time-is : time_from n ≡ next
 
@@ -85,8 +82,8 @@ pub next-kept : (begun next : ℕ) → next_in_range (next_of begun next) ≡ tr
 unfolding next_of
 next-kept begun next = go (eqb begun 1) refl (eqb begun 0 && eqb next 0) refl
   where
-    go : (a : Bool) → eqb begun 1 ≡ a → (b : Bool) → (eqb begun 0 && eqb next 0) ≡ b → next_in_range (cond a (At next) (cond b Unset (At 0xffff_ffff_ffff_ffff))) ≡ true
-        → NextSame begun next (cond a (At next) (cond b Unset (At 0xffff_ffff_ffff_ffff)))
+    go : (a : Bool) → eqb begun 1 ≡ a → (b : Bool) → (eqb begun 0 && eqb next 0) ≡ b → next_in_range (cond a (Some next) (cond b None (Some 0xffff_ffff_ffff_ffff))) ≡ true
+        → NextSame begun next (cond a (Some next) (cond b None (Some 0xffff_ffff_ffff_ffff)))
     go true e b d k = record { begun-is = sym (eqb-true begun 1 e); time-is = refl }
     go false e true d k = record {
       begun-is = sym (eqb-true begun 0 (left (eqb begun 0) (eqb next 0) d));

@@ -9,33 +9,13 @@
 --   full_of, rtt_of                    an ACK's full number and round-trip time, if it has them
 --   ack_answer, answer_by, action_of   an ACK's answer from its fields; the answer to an accepted ACK
 --   ack_left f s n                     "11 alone keeps a new RTT"
-use Rattle.std.specs.Prelude.{Bool, true, false, cond, ℕ, eqb, get_or}
+use Rattle.std.specs.Prelude.{Bool, true, false, cond, ℕ, eqb, get_or, Option, Some, None, Result, Ok, Err}
 use Rattle.rules_numbers.specs.declared.Rtt.{Rtt}
 use Rattle.rules_pacing.specs.Kept as Pacing
 use Rattle.rules_refusals.specs.Table.{number_of, values_of}
 use Rattle.rules_refusals.specs.declared.Refusal.{Refusal}
 use Rattle.buffer_ack.specs.declared.AckAction.{AckAction}
-use Rattle.buffer_ack.specs.declared.AckRtt.{AckRtt}
-use Rattle.buffer_ack.specs.declared.AckRtt.TheVariants as rtts
-use Rattle.buffer_ack.specs.declared.FullAck.{FullAck}
-use Rattle.buffer_ack.specs.declared.FullAck.TheVariants as full
 use Rattle.sender.specs.declared.Sender.{Sender}
-use Rattle.sender.specs.declared.Made.{Made}
-use Rattle.sender.specs.declared.Made.TheVariants as made
-use Rattle.sender.specs.declared.NewPeriod.{NewPeriod}
-use Rattle.sender.specs.declared.NewPeriod.TheVariants as period
-use Rattle.sender.specs.declared.Messaged.{Messaged}
-use Rattle.sender.specs.declared.Messaged.TheVariants as messaged
-use Rattle.sender.specs.declared.Acknowledged.{Acknowledged}
-use Rattle.sender.specs.declared.Acknowledged.TheVariants as acknowledged
-use Rattle.nak.specs.declared.Reported.{Reported}
-use Rattle.nak.specs.declared.Reported.TheVariants as reported
-use Rattle.payload.specs.declared.Found.{Found}
-use Rattle.payload.specs.declared.Found.TheVariants as found
-use Rattle.reports.specs.declared.Told.{Told}
-use Rattle.reports.specs.declared.Told.TheVariants as told
-use Rattle.run.specs.declared.Ran.{Ran}
-use Rattle.run.specs.declared.Ran.TheVariants as ran
 use Rattle.host_structs.specs.declared.senders.FlatSender.{FlatSender}
 use Rattle.host_structs.specs.declared.refused.Refused.{Refused}
 use Rattle.host_structs.specs.declared.starts.NewAnswer.{NewAnswer}
@@ -46,6 +26,9 @@ use Rattle.host_structs.specs.declared.replies.RunAnswer.{RunAnswer}
 use Rattle.host_structs.specs.declared.questions.PayloadAnswer.{PayloadAnswer}
 use Rattle.host_structs.specs.declared.questions.ReportsAnswer.{ReportsAnswer}
 use Rattle.host_structs.specs.Senders.{flat_from}
+use Rattle.sender.specs.declared.Answer.{Answer}
+use Rattle.payload.specs.declared.Lies.{Lies}
+use Rattle.reports.specs.declared.BufferReports.{BufferReports}
 
 abbrev pub refusal : ℕ → ℕ → ℕ → ℕ → Refused
 refusal number first second third = record { number = number; first = first; second = second; third = third }
@@ -74,34 +57,34 @@ blank = record {
   pacing = record { mode = 0; begun = 0; rate = 0; overhead = 0; next = 0; packets = Pacing.none; bytes = Pacing.none };
 }
 
-unfoldable pub new_of : Made → NewAnswer
-new_of (made.Ready s) = record { refusal = none; sender = flat_from s }
-new_of (made.Refused r) = record { refusal = refused_of r; sender = blank }
+unfoldable pub new_of : Result Sender Refusal → NewAnswer
+new_of (Ok s) = record { refusal = none; sender = flat_from s }
+new_of (Err r) = record { refusal = refused_of r; sender = blank }
 
-abbrev pub period_from : NewPeriod → ℕ
-period_from period.None = 0
-period_from (period.Set p) = p
+abbrev pub period_from : Option ℕ → ℕ
+period_from None = 0
+period_from (Some p) = p
 
-unfoldable pub message_of : FlatSender → Messaged → MessageAnswer
-message_of f (messaged.Done s a) =
+unfoldable pub message_of : FlatSender → Result (Sender × Answer) Refusal → MessageAnswer
+message_of f (Ok (s, a)) =
     record { refusal = none; made = a.made; removed = a.removed; bytes = a.bytes; period = period_from a.period; sender = flat_from s }
-message_of f (messaged.Refused r) = record { refusal = refused_of r; made = 0; removed = 0; bytes = 0; period = 0; sender = f }
+message_of f (Err r) = record { refusal = refused_of r; made = 0; removed = 0; bytes = 0; period = 0; sender = f }
 
-abbrev pub full_of : Bool → ℕ → FullAck
-full_of true n = full.Number n
-full_of false n = full.None
+abbrev pub full_of : Bool → ℕ → Option ℕ
+full_of true n = Some n
+full_of false n = None
 
-abbrev pub rtt_of : Bool → Rtt → AckRtt
-rtt_of true r = rtts.Measured r
-rtt_of false r = rtts.None
+abbrev pub rtt_of : Bool → Rtt → Option Rtt
+rtt_of true r = Some r
+rtt_of false r = None
 
 abbrev pub ack_answer : Refused → ℕ → ℕ → Bool → ℕ → FlatSender → AckAnswer
 ack_answer why received recovered given n f =
     record { refusal = why; received = received; recovered = recovered; full = given; full_number = n; sender = f }
 
-abbrev pub answer_by : Sender → AckAction → FullAck → AckAnswer
-answer_by s a full.None = ack_answer none a.received a.recovered false 0 (flat_from s)
-answer_by s a (full.Number n) = ack_answer none a.received a.recovered true n (flat_from s)
+abbrev pub answer_by : Sender → AckAction → Option ℕ → AckAnswer
+answer_by s a None = ack_answer none a.received a.recovered false 0 (flat_from s)
+answer_by s a (Some n) = ack_answer none a.received a.recovered true n (flat_from s)
 
 abbrev pub action_of : Sender → AckAction → AckAnswer
 action_of s a = answer_by s a a.send_ack2
@@ -109,24 +92,24 @@ action_of s a = answer_by s a a.send_ack2
 unfoldable pub ack_left : FlatSender → Sender → ℕ → FlatSender
 ack_left f s n = cond (eqb n 11) (flat_from s) f
 
-unfoldable pub ack_of : FlatSender → Acknowledged → AckAnswer
-ack_of f (acknowledged.Done s a) = action_of s a
-ack_of f (acknowledged.Refused s r) = ack_answer (refused_of r) 0 0 false 0 (ack_left f s (refused_of r).number)
+unfoldable pub ack_of : FlatSender → Result (Sender × AckAction) (Sender × Refusal) → AckAnswer
+ack_of f (Ok (s, a)) = action_of s a
+ack_of f (Err (s, r)) = ack_answer (refused_of r) 0 0 false 0 (ack_left f s (refused_of r).number)
 
-unfoldable pub nak_of : FlatSender → Reported → NakAnswer
-nak_of f (reported.Done s runs) = record { refusal = none; runs = runs; sender = flat_from s }
-nak_of f (reported.Refused r) = record { refusal = refused_of r; runs = 0; sender = f }
+unfoldable pub nak_of : FlatSender → Result (Sender × ℕ) Refusal → NakAnswer
+nak_of f (Ok (s, runs)) = record { refusal = none; runs = runs; sender = flat_from s }
+nak_of f (Err r) = record { refusal = refused_of r; runs = 0; sender = f }
 
-unfoldable pub run_of : FlatSender → Ran → RunAnswer
-run_of f (ran.Done s records left) = record { refusal = none; records = records; left = left; sender = flat_from s }
-run_of f (ran.Refused r) = record { refusal = refused_of r; records = 0; left = 0; sender = f }
+unfoldable pub run_of : FlatSender → Result (Sender × ℕ × ℕ) Refusal → RunAnswer
+run_of f (Ok (s, records, left)) = record { refusal = none; records = records; left = left; sender = flat_from s }
+run_of f (Err r) = record { refusal = refused_of r; records = 0; left = 0; sender = f }
 
-unfoldable pub payload_of : Found → PayloadAnswer
-payload_of (found.Held l) = record { refusal = none; place = l.place; len = l.len }
-payload_of (found.Refused r) = record { refusal = refused_of r; place = 0; len = 0 }
+unfoldable pub payload_of : Result Lies Refusal → PayloadAnswer
+payload_of (Ok l) = record { refusal = none; place = l.place; len = l.len }
+payload_of (Err r) = record { refusal = refused_of r; place = 0; len = 0 }
 
-unfoldable pub reports_of : Told → ReportsAnswer
-reports_of (told.Known t) =
+unfoldable pub reports_of : Result BufferReports Refusal → ReportsAnswer
+reports_of (Ok t) =
     record {
       refusal = none;
       is_flushed = t.is_flushed;
@@ -135,5 +118,5 @@ reports_of (told.Known t) =
       len_bytes = t.len_bytes;
       duration = t.duration;
     }
-reports_of (told.Refused r) =
+reports_of (Err r) =
     record { refusal = refused_of r; is_flushed = false; has_packets_to_send = false; len = 0; len_bytes = 0; duration = 0 }

@@ -8,50 +8,48 @@
 --   control_of, pacing_from            what pacing keeps
 --   buffer_of, books_from              what the send buffer keeps
 --   sender_of, flat_from               all of it
-use Rattle.std.specs.Prelude.{cond, ◌&&◌, ℕ, eqb}
+use Rattle.std.specs.Prelude.{cond, ◌&&◌, ℕ, eqb, Option, Some, None}
 use Rattle.rules_pacing.specs.declared.LiveBandwidthMode.{LiveBandwidthMode}
 use Rattle.rules_pacing.specs.declared.LiveBandwidthMode.TheVariants.{Input, Estimated, Max, Unlimited}
-use Rattle.rules_pacing.specs.declared.Next.{Next}
-use Rattle.rules_pacing.specs.declared.Next.TheVariants.{Unset, At}
 use Rattle.rules_pacing.specs.declared.SenderCongestionControl.{SenderCongestionControl}
 use Rattle.rules_pacing.specs.Kept.{control}
-use Rattle.buffer.specs.declared.Flushed.{Flushed}
-use Rattle.buffer.specs.declared.Flushed.TheVariants.{Nothing, Held}
 use Rattle.buffer.specs.declared.SendBuffer.{SendBuffer}
 use Rattle.sender.specs.declared.Sender.{Sender}
 use Rattle.host_structs.specs.declared.senders.HeldPacket.{HeldPacket}
 use Rattle.host_structs.specs.declared.senders.FlatBooks.{FlatBooks}
 use Rattle.host_structs.specs.declared.pacings.FlatPacing.{FlatPacing}
 use Rattle.host_structs.specs.declared.senders.FlatSender.{FlatSender}
+use Rattle.buffer.specs.State.{flushed_packet}
+use Rattle.buffer.specs.declared.FlushedPacket.{FlushedPacket}
 
 -- ## The flushed packet
 
 -- 2^32 - 1 is not a sequence number
-abbrev pub no_packet : Flushed
-no_packet = Held (record { 0 = 0xffff_ffff }) 0 0
+abbrev pub no_packet : Option FlushedPacket
+no_packet = Some (flushed_packet (record { 0 = 0xffff_ffff }) 0 0)
 
-unfoldable pub flushed_of : HeldPacket → Flushed
+unfoldable pub flushed_of : HeldPacket → Option FlushedPacket
 flushed_of h =
-    cond (eqb h.held 1) (Held (record { 0 = h.number }) h.slot h.len)
-    (cond (eqb h.held 0 && eqb h.number 0 && eqb h.slot 0 && eqb h.len 0) Nothing no_packet)
+    cond (eqb h.held 1) (Some (flushed_packet (record { 0 = h.number }) h.slot h.len))
+    (cond (eqb h.held 0 && eqb h.number 0 && eqb h.slot 0 && eqb h.len 0) None no_packet)
 
-abbrev pub held_from : Flushed → HeldPacket
-held_from Nothing = record { held = 0; number = 0; slot = 0; len = 0 }
-held_from (Held n slot len) = record { held = 1; number = n.0; slot = slot; len = len }
+abbrev pub held_from : Option FlushedPacket → HeldPacket
+held_from None = record { held = 0; number = 0; slot = 0; len = 0 }
+held_from (Some p) = record { held = 1; number = p.number.0; slot = p.slot; len = p.len }
 
 -- ## Pacing
 
 -- 2^64 - 1 is over the limit of next, and over a rate's
-unfoldable pub next_of : ℕ → ℕ → Next
-next_of begun next = cond (eqb begun 1) (At next) (cond (eqb begun 0 && eqb next 0) Unset (At 0xffff_ffff_ffff_ffff))
+unfoldable pub next_of : ℕ → ℕ → Option ℕ
+next_of begun next = cond (eqb begun 1) (Some next) (cond (eqb begun 0 && eqb next 0) None (Some 0xffff_ffff_ffff_ffff))
 
-abbrev pub begun_from : Next → ℕ
-begun_from Unset = 0
-begun_from (At next) = 1
+abbrev pub begun_from : Option ℕ → ℕ
+begun_from None = 0
+begun_from (Some next) = 1
 
-abbrev pub time_from : Next → ℕ
-time_from Unset = 0
-time_from (At next) = next
+abbrev pub time_from : Option ℕ → ℕ
+time_from None = 0
+time_from (Some next) = next
 
 unfoldable pub mode_of : ℕ → ℕ → ℕ → LiveBandwidthMode
 mode_of mode rate overhead =

@@ -1,17 +1,17 @@
 // The arguments and the answer of an ACK, as numbers. A refused ACK returns the sender it was given; with 11 alone, the
 // ACK's round-trip time replaces the sender's.
 ghost use Rattle.std.specs.Prelude.{◌≡◌};
-ghost use Rattle.host_structs.specs.Replies.{full_of, rtt_of, action_of, ack_left, ack_of};
+ghost use Rattle.host_structs.specs.Replies.{refused_of, action_of, ack_left, ack_of};
 
-use crate::refused::{Refused, none, refusal_of};
-use crate::senders::{FlatSender, flat_from};
-use buffer_ack::{AckAction, AckRtt, FullAck};
-use rules_numbers::Rtt;
-use sender::{Acknowledged, Sender};
+use crate::refused::Refused;
+use crate::senders::FlatSender;
+use buffer_ack::AckAction;
+use rules_refusals::Refusal;
+use sender::Sender;
 
 // Packets acknowledged, how many of them were on the loss list, and the ACK's full number if `full` is true.
 #[repr(C)]
-#[derive(Clone, Copy)]
+#[derive(Clone, Copy, Default)]
 pub struct AckAnswer {
     pub refusal: Refused,
     pub received: u32,
@@ -21,74 +21,40 @@ pub struct AckAnswer {
     pub sender: FlatSender,
 }
 
-// The full number of an ACK, if it has one.
-pub fn full_of(full: bool, full_number: u32) -> FullAck
-    ensures { result ≡ full_of full full_number }
-{
-    if full {
-        FullAck::Number(full_number)
-    } else {
-        FullAck::None
-    }
-}
-
-// The round-trip time of an ACK, if it has one.
-pub fn rtt_of(measured: bool, rtt: Rtt) -> AckRtt
-    ensures { result ≡ rtt_of measured rtt }
-{
-    if measured {
-        AckRtt::Measured(rtt)
-    } else {
-        AckRtt::None
-    }
-}
-
 fn action_of(s: Sender, action: AckAction) -> AckAnswer
     ensures { result ≡ action_of s action }
 {
-    let full = action.send_ack2;
-    match full {
-        FullAck::None => AckAnswer {
-            refusal: none(),
-            received: action.received,
-            recovered: action.recovered,
-            full: false,
-            full_number: 0,
-            sender: flat_from(s),
-        },
-        FullAck::Number(n) => AckAnswer {
-            refusal: none(),
-            received: action.received,
-            recovered: action.recovered,
-            full: true,
-            full_number: n,
-            sender: flat_from(s),
-        },
+    AckAnswer {
+        refusal: Refused::default(),
+        received: action.received,
+        recovered: action.recovered,
+        full: action.send_ack2.is_some(),
+        full_number: action.send_ack2.unwrap_or(0),
+        sender: FlatSender::from(s),
     }
 }
 
-// The sender after a refused ACK: 11 alone keeps a new round-trip time.
-fn ack_left(given: FlatSender, s: Sender, number: u32) -> FlatSender
-    ensures { result ≡ ack_left given s number }
+// The sender after a refused ACK: a stale full ACK alone keeps a new round-trip time.
+#[tactic(auto, unfolding(crate::specs::Replies::ack_left, crate::specs::Replies::refused_of))]
+fn ack_left(given: FlatSender, s: Sender, why: Refusal) -> FlatSender
+    ensures { result ≡ ack_left given s (refused_of why).number }
 {
-    if number == 11 { flat_from(s) } else { given }
+    match why {
+        Refusal::StaleFullAck { .. } => FlatSender::from(s),
+        _ => given,
+    }
 }
 
-pub fn ack_answer(given: FlatSender, a: Acknowledged) -> AckAnswer
+#[tactic(auto, unfolding(crate::specs::Replies::ack_of))]
+pub fn ack_answer(given: FlatSender, a: Result<(Sender, AckAction), (Sender, Refusal)>) -> AckAnswer
     ensures { result ≡ ack_of given a }
 {
     match a {
-        Acknowledged::Done(s, action) => action_of(s, action),
-        Acknowledged::Refused(s, why) => {
-            let refusal = refusal_of(why);
-            AckAnswer {
-                refusal,
-                received: 0,
-                recovered: 0,
-                full: false,
-                full_number: 0,
-                sender: ack_left(given, s, refusal.number),
-            }
-        }
+        Ok((s, action)) => action_of(s, action),
+        Err((s, why)) => AckAnswer {
+            refusal: Refused::from(why),
+            sender: ack_left(given, s, why),
+            ..Default::default()
+        },
     }
 }

@@ -1,14 +1,14 @@
 // Pacing as numbers, and the pacing they encode. Numbers that encode nothing are read as a time or a rate over its
 // limit, so every call refuses them in its order of tests: BadState, or BadSetting for a new sender's mode.
 ghost use Rattle.std.specs.Prelude.{◌≡◌};
-ghost use Rattle.host_structs.specs.Senders.{next_of, begun_from, time_from, mode_of, code_from, rate_from, overhead_from, control_of, pacing_from};
+ghost use Rattle.host_structs.specs.Senders.{next_of, mode_of, code_from, rate_from, overhead_from, control_of, pacing_from};
 
-use rules_pacing::{LiveBandwidthMode, Next, RateEstimation, SenderCongestionControl};
+use rules_pacing::{LiveBandwidthMode, RateEstimation, SenderCongestionControl};
 
 // What pacing keeps. Modes: 0 input, 1 estimated, 2 maximum, 3 unlimited; fields that a mode doesn't use are 0. `begun`
 // is 1 from the first input on; before it, `next` is 0.
 #[repr(C)]
-#[derive(Clone, Copy)]
+#[derive(Clone, Copy, Default)]
 pub struct FlatPacing {
     pub mode: u32,
     pub begun: u32,
@@ -23,134 +23,75 @@ const NO_TIME: u64 = 0xffff_ffff_ffff_ffff;
 
 const NO_RATE: u64 = 0xffff_ffff_ffff_ffff;
 
-fn next_of(begun: u32, next: u64) -> Next
+// Not a `From`: C has two numbers for it, and three for a mode.
+#[tactic(auto, unfolding(crate::specs::Senders::next_of))]
+fn next_of(begun: u32, next: u64) -> Option<u64>
     ensures { result ≡ next_of begun next }
 {
-    if begun == 1 {
-        return Next::At(next);
-    }
-    if (begun == 0) & (next == 0) {
-        return Next::Unset;
-    }
-    Next::At(NO_TIME)
-}
-
-fn begun_from(next: Next) -> u32
-    ensures { result ≡ begun_from next }
-{
-    match next {
-        Next::Unset => 0,
-        Next::At(_) => 1,
-    }
-}
-
-fn time_from(next: Next) -> u64
-    ensures { result ≡ time_from next }
-{
-    match next {
-        Next::Unset => 0,
-        Next::At(time) => time,
+    match (begun, next) {
+        (1, _) => Some(next),
+        (0, 0) => None,
+        _ => Some(NO_TIME),
     }
 }
 
 // The mode with this number, rate and overhead.
+#[tactic(auto, unfolding(crate::specs::Senders::mode_of))]
 pub fn mode_of(mode: u32, rate: u64, overhead: u64) -> LiveBandwidthMode
     ensures { result ≡ mode_of mode rate overhead }
 {
-    if mode == 0 {
-        return LiveBandwidthMode::Input { rate, overhead };
-    }
-    if mode == 1 {
-        return LiveBandwidthMode::Estimated {
+    match (mode, rate, overhead) {
+        (0, _, _) => LiveBandwidthMode::Input { rate, overhead },
+        (1, _, _) => LiveBandwidthMode::Estimated {
             expected: rate,
             overhead,
-        };
+        },
+        (2, _, 0) => LiveBandwidthMode::Max(rate),
+        (3, 0, 0) => LiveBandwidthMode::Unlimited,
+        _ => LiveBandwidthMode::Max(NO_RATE),
     }
-    if (mode == 2) & (overhead == 0) {
-        return LiveBandwidthMode::Max(rate);
-    }
-    if (mode == 3) & (rate == 0) & (overhead == 0) {
-        return LiveBandwidthMode::Unlimited;
-    }
-    LiveBandwidthMode::Max(NO_RATE)
 }
 
-fn code_from(mode: LiveBandwidthMode) -> u32
-    ensures { result ≡ code_from mode }
+// The mode's number, rate and overhead.
+fn numbers_of(mode: LiveBandwidthMode) -> (u32, u64, u64)
+    ensures { result ≡ (code_from mode, rate_from mode, overhead_from mode) }
 {
     match mode {
-        LiveBandwidthMode::Input {
-            rate: _,
-            overhead: _,
-        } => 0,
-        LiveBandwidthMode::Estimated {
-            expected: _,
-            overhead: _,
-        } => 1,
-        LiveBandwidthMode::Max(_) => 2,
-        LiveBandwidthMode::Unlimited => 3,
+        LiveBandwidthMode::Input { rate, overhead } => (0, rate, overhead),
+        LiveBandwidthMode::Estimated { expected, overhead } => (1, expected, overhead),
+        LiveBandwidthMode::Max(rate) => (2, rate, 0),
+        LiveBandwidthMode::Unlimited => (3, 0, 0),
     }
 }
 
-fn rate_from(mode: LiveBandwidthMode) -> u64
-    ensures { result ≡ rate_from mode }
-{
-    match mode {
-        LiveBandwidthMode::Input { rate, overhead: _ } => rate,
-        LiveBandwidthMode::Estimated {
-            expected,
-            overhead: _,
-        } => expected,
-        LiveBandwidthMode::Max(rate) => rate,
-        LiveBandwidthMode::Unlimited => 0,
-    }
-}
+// The pacing that these numbers encode.
+impl From<FlatPacing> for SenderCongestionControl {
+    ghost from_gives = { λ p c. c ≡ control_of p };
 
-fn overhead_from(mode: LiveBandwidthMode) -> u64
-    ensures { result ≡ overhead_from mode }
-{
-    match mode {
-        LiveBandwidthMode::Input { rate: _, overhead } => overhead,
-        LiveBandwidthMode::Estimated {
-            expected: _,
-            overhead,
-        } => overhead,
-        LiveBandwidthMode::Max(_) => 0,
-        LiveBandwidthMode::Unlimited => 0,
-    }
-}
-
-impl FlatPacing {
-    // The pacing that these numbers encode.
-    pub fn control(self) -> SenderCongestionControl
-        ensures { result ≡ control_of self }
-    {
-        let packets = self.packets;
-        let bytes = self.bytes;
+    fn from(p: FlatPacing) -> SenderCongestionControl {
         SenderCongestionControl {
-            next: next_of(self.begun, self.next),
-            packets,
-            bytes,
-            bandwidth_mode: mode_of(self.mode, self.rate, self.overhead),
+            next: next_of(p.begun, p.next),
+            packets: p.packets,
+            bytes: p.bytes,
+            bandwidth_mode: mode_of(p.mode, p.rate, p.overhead),
         }
     }
 }
 
 // Pacing as numbers.
-pub fn pacing_from(c: SenderCongestionControl) -> FlatPacing
-    ensures { result ≡ pacing_from c }
-{
-    let next = c.next;
-    let packets = c.packets;
-    let bytes = c.bytes;
-    let mode = c.bandwidth_mode;
-    FlatPacing {
-        mode: code_from(mode),
-        begun: begun_from(next),
-        rate: rate_from(mode),
-        overhead: overhead_from(mode),
-        next: time_from(next),
-        packets,
-        bytes,
+impl From<SenderCongestionControl> for FlatPacing {
+    ghost from_gives = { λ c p. p ≡ pacing_from c };
+
+    fn from(c: SenderCongestionControl) -> FlatPacing {
+        let (mode, rate, overhead) = numbers_of(c.bandwidth_mode);
+        FlatPacing {
+            mode,
+            begun: u32::from(c.next.is_some()),
+            rate,
+            overhead,
+            next: c.next.unwrap_or(0),
+            packets: c.packets,
+            bytes: c.bytes,
+        }
     }
 }

@@ -2,13 +2,14 @@
 ghost use Rattle.std.specs.Prelude.{◌≡◌};
 ghost use Rattle.host_structs.specs.Replies.{payload_of, reports_of};
 
-use crate::refused::{Refused, none, refusal_of};
-use payload::Found;
-use reports::Told;
+use crate::refused::Refused;
+use payload::Lies;
+use reports::BufferReports;
+use rules_refusals::Refusal;
 
 // Where a payload starts in the store, and its length.
 #[repr(C)]
-#[derive(Clone, Copy)]
+#[derive(Clone, Copy, Default)]
 pub struct PayloadAnswer {
     pub refusal: Refused,
     pub place: usize,
@@ -17,7 +18,7 @@ pub struct PayloadAnswer {
 
 // The reports: flushed, has packets to send, buffered packets, bytes, and time in microseconds.
 #[repr(C)]
-#[derive(Clone, Copy)]
+#[derive(Clone, Copy, Default)]
 pub struct ReportsAnswer {
     pub refusal: Refused,
     pub is_flushed: bool,
@@ -27,42 +28,43 @@ pub struct ReportsAnswer {
     pub duration: u64,
 }
 
-pub fn payload_answer(a: Found) -> PayloadAnswer
-    ensures { result ≡ payload_of a }
-{
-    match a {
-        Found::Held(lies) => PayloadAnswer {
-            refusal: none(),
-            place: lies.place,
-            len: lies.len,
-        },
-        Found::Refused(why) => PayloadAnswer {
-            refusal: refusal_of(why),
-            place: 0,
-            len: 0,
-        },
+impl From<Result<Lies, Refusal>> for PayloadAnswer {
+    ghost from_gives = { λ a answer. answer ≡ payload_of a };
+
+    #[tactic(auto, unfolding(crate::specs::Replies::payload_of))]
+    fn from(a: Result<Lies, Refusal>) -> PayloadAnswer {
+        match a {
+            Ok(lies) => PayloadAnswer {
+                refusal: Refused::default(),
+                place: lies.place,
+                len: lies.len,
+            },
+            Err(why) => PayloadAnswer {
+                refusal: Refused::from(why),
+                ..Default::default()
+            },
+        }
     }
 }
 
-pub fn reports_answer(a: Told) -> ReportsAnswer
-    ensures { result ≡ reports_of a }
-{
-    match a {
-        Told::Known(told) => ReportsAnswer {
-            refusal: none(),
-            is_flushed: told.is_flushed,
-            has_packets_to_send: told.has_packets_to_send,
-            len: told.len,
-            len_bytes: told.len_bytes,
-            duration: told.duration,
-        },
-        Told::Refused(why) => ReportsAnswer {
-            refusal: refusal_of(why),
-            is_flushed: false,
-            has_packets_to_send: false,
-            len: 0,
-            len_bytes: 0,
-            duration: 0,
-        },
+impl From<Result<BufferReports, Refusal>> for ReportsAnswer {
+    ghost from_gives = { λ a answer. answer ≡ reports_of a };
+
+    #[tactic(auto, unfolding(crate::specs::Replies::reports_of))]
+    fn from(a: Result<BufferReports, Refusal>) -> ReportsAnswer {
+        match a {
+            Ok(told) => ReportsAnswer {
+                refusal: Refused::default(),
+                is_flushed: told.is_flushed,
+                has_packets_to_send: told.has_packets_to_send,
+                len: told.len,
+                len_bytes: told.len_bytes,
+                duration: told.duration,
+            },
+            Err(why) => ReportsAnswer {
+                refusal: Refused::from(why),
+                ..Default::default()
+            },
+        }
     }
 }

@@ -1,6 +1,6 @@
 // Why a call is refused, as numbers: document 01, "Refusal numbers".
 ghost use Rattle.std.specs.Prelude.{◌≡◌};
-ghost use Rattle.host_structs.specs.Replies.{refusal, none, refused_of};
+ghost use Rattle.host_structs.specs.Replies.{refused_of};
 
 use rules_refusals::Refusal;
 
@@ -8,7 +8,7 @@ use rules_refusals::Refusal;
 // the ACK's number, the front and next unsent, for 11 the full number and the expected one, for 12 the word's index.
 // All other fields are 0.
 #[repr(C)]
-#[derive(Clone, Copy)]
+#[derive(Clone, Copy, Default)]
 pub struct Refused {
     pub number: u32,
     pub first: u64,
@@ -16,48 +16,41 @@ pub struct Refused {
     pub third: u64,
 }
 
-fn values(number: u32, first: u64, second: u64, third: u64) -> Refused
-    ensures { result ≡ refusal number first second third }
-{
-    Refused {
-        number,
-        first,
-        second,
-        third,
-    }
-}
+impl From<Refusal> for Refused {
+    ghost from_gives = { λ r f. f ≡ refused_of r };
 
-// The call is accepted.
-pub(crate) fn none() -> Refused
-    ensures { result ≡ none }
-{
-    values(0, 0, 0, 0)
-}
-
-pub(crate) fn refusal_of(r: Refusal) -> Refused
-    ensures { result ≡ refused_of r }
-{
-    match r {
-        Refusal::BadSetting => values(1, 0, 0, 0),
-        Refusal::BadStore => values(2, 0, 0, 0),
-        Refusal::BadState => values(3, 0, 0, 0),
-        Refusal::BadTime => values(4, 0, 0, 0),
-        Refusal::TooLong => values(5, 0, 0, 0),
-        Refusal::CountFull => values(6, 0, 0, 0),
-        Refusal::BadNumber => values(7, 0, 0, 0),
-        Refusal::BadRtt => values(8, 0, 0, 0),
-        Refusal::Empty => values(9, 0, 0, 0),
-        Refusal::InvalidAck {
-            ack_number,
-            first,
-            next,
-        } => values(10, ack_number.0 as u64, first.0 as u64, next.0 as u64),
-        Refusal::StaleFullAck {
-            received_full_ack,
-            next_full_ack,
-        } => values(11, received_full_ack as u64, next_full_ack, 0),
-        Refusal::BadNak { index } => values(12, index as u64, 0, 0),
-        Refusal::NoRoom => values(13, 0, 0, 0),
-        Refusal::NotHeld => values(14, 0, 0, 0),
+    #[tactic(auto, unfolding(crate::specs::Replies::refused_of))]
+    fn from(r: Refusal) -> Refused {
+        let number = refusals::number(r);
+        match r {
+            Refusal::InvalidAck {
+                ack_number,
+                first,
+                next,
+            } => Refused {
+                number,
+                first: ack_number.0 as u64,
+                second: first.0 as u64,
+                third: next.0 as u64,
+            },
+            Refusal::StaleFullAck {
+                received_full_ack,
+                next_full_ack,
+            } => Refused {
+                number,
+                first: received_full_ack as u64,
+                second: next_full_ack,
+                third: 0,
+            },
+            Refusal::BadNak { index } => Refused {
+                number,
+                first: index as u64,
+                ..Default::default()
+            },
+            _ => Refused {
+                number,
+                ..Default::default()
+            },
+        }
     }
 }

@@ -1,18 +1,18 @@
 // The answers of `message`, `nak` and `run` as numbers: the refusal, the results, and the sender to keep from then on.
-// A refused call returns the sender it was given.
+// A refused call returns the sender it was given: so these are functions, not `From`, one for each
+// of C's structs.
 ghost use Rattle.std.specs.Prelude.{◌≡◌};
-ghost use Rattle.host_structs.specs.Replies.{period_from, message_of, nak_of, run_of};
+ghost use Rattle.host_structs.specs.Replies.{message_of, nak_of, run_of};
 
-use crate::refused::{Refused, none, refusal_of};
-use crate::senders::{FlatSender, flat_from};
-use nak::Reported;
-use run::Ran;
-use sender::{Messaged, NewPeriod};
+use crate::refused::Refused;
+use crate::senders::FlatSender;
+use rules_refusals::Refusal;
+use sender::{Answer, Sender};
 
 // Packets made, packets removed, wire bytes removed, and the new period in microseconds; 0 means none, since a period
 // is at least 1.
 #[repr(C)]
-#[derive(Clone, Copy)]
+#[derive(Clone, Copy, Default)]
 pub struct MessageAnswer {
     pub refusal: Refused,
     pub made: usize,
@@ -41,70 +41,58 @@ pub struct RunAnswer {
     pub sender: FlatSender,
 }
 
-fn period_from(period: NewPeriod) -> u64
-    ensures { result ≡ period_from period }
-{
-    match period {
-        NewPeriod::None => 0,
-        NewPeriod::Set(p) => p,
-    }
-}
-
-pub fn message_answer(given: FlatSender, a: Messaged) -> MessageAnswer
+#[tactic(auto, unfolding(crate::specs::Replies::message_of))]
+pub fn message_answer(given: FlatSender, a: Result<(Sender, Answer), Refusal>) -> MessageAnswer
     ensures { result ≡ message_of given a }
 {
     match a {
-        Messaged::Done(s, answer) => {
-            let period = answer.period;
-            MessageAnswer {
-                refusal: none(),
-                made: answer.made,
-                removed: answer.removed,
-                bytes: answer.bytes,
-                period: period_from(period),
-                sender: flat_from(s),
-            }
-        }
-        Messaged::Refused(why) => MessageAnswer {
-            refusal: refusal_of(why),
-            made: 0,
-            removed: 0,
-            bytes: 0,
-            period: 0,
+        Ok((s, answer)) => MessageAnswer {
+            refusal: Refused::default(),
+            made: answer.made,
+            removed: answer.removed,
+            bytes: answer.bytes,
+            period: answer.period.unwrap_or(0),
+            sender: FlatSender::from(s),
+        },
+        Err(why) => MessageAnswer {
+            refusal: Refused::from(why),
             sender: given,
+            ..Default::default()
         },
     }
 }
 
-pub fn nak_answer(given: FlatSender, a: Reported) -> NakAnswer
+#[tactic(auto, unfolding(crate::specs::Replies::nak_of))]
+pub fn nak_answer(given: FlatSender, a: Result<(Sender, usize), Refusal>) -> NakAnswer
     ensures { result ≡ nak_of given a }
 {
     match a {
-        Reported::Done(s, runs) => NakAnswer {
-            refusal: none(),
+        Ok((s, runs)) => NakAnswer {
+            refusal: Refused::default(),
             runs,
-            sender: flat_from(s),
+            sender: FlatSender::from(s),
         },
-        Reported::Refused(why) => NakAnswer {
-            refusal: refusal_of(why),
+        Err(why) => NakAnswer {
+            refusal: Refused::from(why),
             runs: 0,
             sender: given,
         },
     }
 }
 
-pub fn run_answer(given: FlatSender, a: Ran) -> RunAnswer
+#[tactic(auto, unfolding(crate::specs::Replies::run_of))]
+pub fn run_answer(given: FlatSender, a: Result<(Sender, usize, u32), Refusal>) -> RunAnswer
     ensures { result ≡ run_of given a }
 {
     match a {
-        Ran::Done(s, records, left) => RunAnswer {
-            refusal: none(),
+        Ok((s, records, left)) => RunAnswer {
+            refusal: Refused::default(),
             records,
             left,
-            sender: flat_from(s),
+            sender: FlatSender::from(s),
         },
-        Ran::Refused(why) => RunAnswer {
-            refusal: refusal_of(why),
+        Err(why) => RunAnswer {
+            refusal: Refused::from(why),
             records: 0,
             left: 0,
             sender: given,

@@ -3,15 +3,16 @@
 ghost use Rattle.std.specs.Prelude.{◌≡◌};
 ghost use Rattle.host_structs.specs.Senders.{flushed_of, held_from, buffer_of, books_from, sender_of, flat_from};
 
-use crate::pacings::{FlatPacing, pacing_from};
-use buffer::{Flushed, SendBuffer, Settings};
+use crate::pacings::FlatPacing;
+use buffer::{FlushedPacket, SendBuffer, Settings};
 use ring::Ring;
 use rules_numbers::{MsgNumber, Rtt, SeqNumber};
+use rules_pacing::SenderCongestionControl;
 use sender::Sender;
 
 // The flushed packet whose payload is held: `held` is 1; if none is, every field is 0.
 #[repr(C)]
-#[derive(Clone, Copy)]
+#[derive(Clone, Copy, Default)]
 pub struct HeldPacket {
     pub held: u32,
     pub number: u32,
@@ -21,7 +22,7 @@ pub struct HeldPacket {
 
 // What the send buffer keeps besides the lent areas.
 #[repr(C)]
-#[derive(Clone, Copy)]
+#[derive(Clone, Copy, Default)]
 pub struct FlatBooks {
     pub ring: Ring,
     pub front: u32,
@@ -36,7 +37,7 @@ pub struct FlatBooks {
 
 // Everything that a sender keeps besides the lent areas.
 #[repr(C)]
-#[derive(Clone, Copy)]
+#[derive(Clone, Copy, Default)]
 pub struct FlatSender {
     pub settings: Settings,
     pub books: FlatBooks,
@@ -45,103 +46,106 @@ pub struct FlatSender {
 
 const NO_NUMBER: u32 = 0xffff_ffff;
 
-fn flushed_of(h: HeldPacket) -> Flushed
+// The flushed packet that these numbers encode. Not a `From`: std has one into `Option` already, so each call would have
+// to name both types.
+#[tactic(auto, unfolding(crate::specs::Senders::flushed_of))]
+fn flushed_of(h: HeldPacket) -> Option<FlushedPacket>
     ensures { result ≡ flushed_of h }
 {
-    if h.held == 1 {
-        return Flushed::Held(SeqNumber(h.number), h.slot, h.len);
-    }
-    if (h.held == 0) & (h.number == 0) & (h.slot == 0) & (h.len == 0) {
-        return Flushed::Nothing;
-    }
-    Flushed::Held(SeqNumber(NO_NUMBER), 0, 0)
-}
-
-fn held_from(f: Flushed) -> HeldPacket
-    ensures { result ≡ held_from f }
-{
-    match f {
-        Flushed::Nothing => HeldPacket {
-            held: 0,
-            number: 0,
-            slot: 0,
-            len: 0,
-        },
-        Flushed::Held(n, slot, len) => HeldPacket {
-            held: 1,
-            number: n.0,
+    match (h.held, h.number, h.slot, h.len) {
+        (1, number, slot, len) => Some(FlushedPacket {
+            number: SeqNumber(number),
             slot,
             len,
-        },
+        }),
+        (0, 0, 0, 0) => None,
+        _ => Some(FlushedPacket {
+            number: SeqNumber(NO_NUMBER),
+            slot: 0,
+            len: 0,
+        }),
     }
 }
 
-impl FlatBooks {
-    fn buffer(self) -> SendBuffer
-        ensures { result ≡ buffer_of self }
-    {
-        let ring = self.ring;
-        let rtt = self.rtt;
-        let held = self.held;
-        SendBuffer {
-            ring,
-            front: SeqNumber(self.front),
-            sent: self.sent,
-            lost: self.lost,
-            bytes: self.bytes,
-            rtt,
-            message: MsgNumber(self.message),
-            expected: self.expected,
-            flushed: flushed_of(held),
+// The flushed packet as numbers.
+impl From<Option<FlushedPacket>> for HeldPacket {
+    ghost from_gives = { λ f h. h ≡ held_from f };
+
+    fn from(f: Option<FlushedPacket>) -> HeldPacket {
+        match f {
+            None => HeldPacket::default(),
+            Some(packet) => HeldPacket {
+                held: 1,
+                number: packet.number.0,
+                slot: packet.slot,
+                len: packet.len,
+            },
         }
     }
 }
 
-fn books_from(b: SendBuffer) -> FlatBooks
-    ensures { result ≡ books_from b }
-{
-    let ring = b.ring;
-    let front = b.front;
-    let rtt = b.rtt;
-    let message = b.message;
-    let flushed = b.flushed;
-    FlatBooks {
-        ring,
-        front: front.0,
-        sent: b.sent,
-        lost: b.lost,
-        bytes: b.bytes,
-        rtt,
-        expected: b.expected,
-        held: held_from(flushed),
-        message: message.0,
+// The send buffer that these numbers encode.
+impl From<FlatBooks> for SendBuffer {
+    ghost from_gives = { λ f b. b ≡ buffer_of f };
+
+    fn from(f: FlatBooks) -> SendBuffer {
+        SendBuffer {
+            ring: f.ring,
+            front: SeqNumber(f.front),
+            sent: f.sent,
+            lost: f.lost,
+            bytes: f.bytes,
+            rtt: f.rtt,
+            message: MsgNumber(f.message),
+            expected: f.expected,
+            flushed: flushed_of(f.held),
+        }
     }
 }
 
-impl FlatSender {
-    // The sender that these numbers encode.
-    pub fn sender(self) -> Sender
-        ensures { result ≡ sender_of self }
-    {
-        let settings = self.settings;
-        let books = self.books;
-        let pacing = self.pacing;
+// A send buffer as numbers.
+impl From<SendBuffer> for FlatBooks {
+    ghost from_gives = { λ b f. f ≡ books_from b };
+
+    fn from(b: SendBuffer) -> FlatBooks {
+        FlatBooks {
+            ring: b.ring,
+            front: b.front.0,
+            sent: b.sent,
+            lost: b.lost,
+            bytes: b.bytes,
+            rtt: b.rtt,
+            expected: b.expected,
+            held: HeldPacket::from(b.flushed),
+            message: b.message.0,
+        }
+    }
+}
+
+// The sender that these numbers encode.
+impl From<FlatSender> for Sender {
+    ghost from_gives = { λ f s. s ≡ sender_of f };
+
+    #[tactic(auto, unfolding(crate::specs::Senders::sender_of))]
+    fn from(f: FlatSender) -> Sender {
         Sender {
-            settings,
-            buffer: books.buffer(),
-            pacing: pacing.control(),
+            settings: f.settings,
+            buffer: SendBuffer::from(f.books),
+            pacing: SenderCongestionControl::from(f.pacing),
         }
     }
 }
 
 // A sender as numbers.
-pub fn flat_from(s: Sender) -> FlatSender
-    ensures { result ≡ flat_from s }
-{
-    let settings = s.settings;
-    FlatSender {
-        settings,
-        books: books_from(s.buffer),
-        pacing: pacing_from(s.pacing),
+impl From<Sender> for FlatSender {
+    ghost from_gives = { λ s f. f ≡ flat_from s };
+
+    #[tactic(auto, unfolding(crate::specs::Senders::flat_from))]
+    fn from(s: Sender) -> FlatSender {
+        FlatSender {
+            settings: s.settings,
+            books: FlatBooks::from(s.buffer),
+            pacing: FlatPacing::from(s.pacing),
+        }
     }
 }

@@ -5,7 +5,8 @@
 ghost use Rattle.std.specs.Prelude.{◌≡◌};
 ghost use Rattle.host_timers.specs.TimersAnswers.{told, nanoseconds, blanks, timers_set, timers_checked, next_message};
 
-use rules_timers::{Elapsed, Nanoseconds, NextMessage, Timer, Timers, TimersChecked, TimersSet};
+use rules_refusals::Refusal;
+use rules_timers::Timers;
 
 // The answer of a call that makes, sets or checks: the timers after it, and the periods elapsed, 0 for none.
 #[repr(C)]
@@ -25,40 +26,42 @@ pub struct NanosecondsAnswer {
 }
 
 // The periods that a check found. It finds at least one, if any, so 0 can mean none.
-pub fn told(elapsed: Elapsed) -> u32
+pub fn told(elapsed: Option<u32>) -> u32
     ensures { result ≡ told elapsed }
 {
-    match elapsed {
-        Elapsed::Nothing => 0,
-        Elapsed::Periods(n) => n,
+    elapsed.unwrap_or(0)
+}
+
+impl From<Result<u64, Refusal>> for NanosecondsAnswer {
+    ghost from_gives = { λ a r. r ≡ nanoseconds a };
+
+    #[tactic(auto, unfolding(crate::specs::TimersAnswers::nanoseconds))]
+    fn from(a: Result<u64, Refusal>) -> NanosecondsAnswer {
+        match a {
+            Ok(nanoseconds) => NanosecondsAnswer {
+                refusal: 0,
+                nanoseconds,
+            },
+            Err(refusal) => NanosecondsAnswer {
+                refusal: refusals::number(refusal),
+                nanoseconds: 0,
+            },
+        }
     }
 }
 
-pub fn nanoseconds(a: Nanoseconds) -> NanosecondsAnswer
-    ensures { result ≡ nanoseconds a }
-{
-    match a {
-        Nanoseconds::Are(nanoseconds) => NanosecondsAnswer {
-            refusal: 0,
-            nanoseconds,
-        },
-        Nanoseconds::Refused(refusal) => NanosecondsAnswer {
-            refusal: refusals::number(refusal),
-            nanoseconds: 0,
-        },
-    }
-}
-
-pub fn timers_set(before: Timers, a: TimersSet) -> TimersAnswer
+// Functions, not `From`: a refused call's answer has the timers that were given.
+#[tactic(auto, unfolding(crate::specs::TimersAnswers::timers_set))]
+pub fn timers_set(before: Timers, a: Result<Timers, Refusal>) -> TimersAnswer
     ensures { result ≡ timers_set before a }
 {
     match a {
-        TimersSet::Done(timers) => TimersAnswer {
+        Ok(timers) => TimersAnswer {
             refusal: 0,
             periods: 0,
             timers,
         },
-        TimersSet::Refused(refusal) => TimersAnswer {
+        Err(refusal) => TimersAnswer {
             refusal: refusals::number(refusal),
             periods: 0,
             timers: before,
@@ -66,16 +69,17 @@ pub fn timers_set(before: Timers, a: TimersSet) -> TimersAnswer
     }
 }
 
-pub fn timers_checked(before: Timers, a: TimersChecked) -> TimersAnswer
+#[tactic(auto, unfolding(crate::specs::TimersAnswers::timers_checked))]
+pub fn timers_checked(before: Timers, a: Result<(Option<u32>, Timers), Refusal>) -> TimersAnswer
     ensures { result ≡ timers_checked before a }
 {
     match a {
-        TimersChecked::Done(elapsed, timers) => TimersAnswer {
+        Ok((elapsed, timers)) => TimersAnswer {
             refusal: 0,
             periods: told(elapsed),
             timers,
         },
-        TimersChecked::Refused(refusal) => TimersAnswer {
+        Err(refusal) => TimersAnswer {
             refusal: refusals::number(refusal),
             periods: 0,
             timers: before,
@@ -83,29 +87,16 @@ pub fn timers_checked(before: Timers, a: TimersChecked) -> TimersAnswer
     }
 }
 
-// The next message's time, if the host knows it.
-pub fn next_message(known: bool, time: u64) -> NextMessage
+// The next message's time, if the host knows it. C has a flag and a number for it.
+pub fn next_message(known: bool, time: u64) -> Option<u64>
     ensures { result ≡ next_message known time }
 {
-    if known {
-        NextMessage::At(time)
-    } else {
-        NextMessage::Unknown
-    }
+    known.then_some(time)
 }
 
 // Timers of zeros, for a refused `new`.
 pub fn blanks() -> Timers
     ensures { result ≡ blanks }
 {
-    let blank = Timer { period: 0, last: 0 };
-    Timers {
-        snd: blank,
-        full_ack: blank,
-        nak: blank,
-        exp: blank,
-        exp_count: 0,
-        peer_idle: blank,
-        statistics: blank,
-    }
+    Timers::default()
 }

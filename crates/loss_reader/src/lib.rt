@@ -26,9 +26,8 @@ impl<'a> LossReader<'a> {
     pub fn next<'s>(&'s mut self) -> Step
         ensures { (result ≡ here self.old) × (self.new ≡ moved self.old) }
     {
-        let at = self.at;
-        let step = loss_words::step_at(self.words, at);
-        self.at = at + step.width();
+        let step = loss_words::step_at(self.words, self.at);
+        self.at += step.width();
         step
     }
 }
@@ -39,11 +38,9 @@ pub fn count(words: &[u32]) -> usize
 {
     let mut reader = LossReader::new(words);
     let mut n = 0;
-    loop {
-        let step = reader.next();
-        if step.width() < 1 {
-            return n;
-        }
+    // Not a `for`: `next` promises a `Step`, also where there is no item.
+    while 0 < reader.next().width() {
         n += 1;
     }
+    n
 }

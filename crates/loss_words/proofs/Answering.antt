@@ -9,9 +9,10 @@ use lib.ListN.{length, drop, drop_of_length-le}
 use Rattle.rules.specs.Losses.{Item, Words, items, items_of, bad, before, parse, words_of, LossRun, joined}
 use Rattle.loss_words.specs.Words.{step_at, width_of, item_of}
 use Rattle.loss_words.specs.Words.Laws.{parse-none, parse-some, words_many, words-few}
+use Rattle.loss_words.specs.declared.runs.Runs.{Runs}
 use Rattle.loss_words.specs.Runs.{item_runs_at, runs_at, add_all}
 use Rattle.loss_words.specs.Runs.Laws.{add_all-joined, add_all-append}
-use Rattle.loss_words.specs.Runs.Lent.{Holds, Written, Accepted, holds-none}
+use Rattle.loss_words.specs.Runs.Lent.{Holds, HasRoom, SameList, Written, Accepted, holds-none}
 
 -- the items behind the first
 behind : (i : Item) (w : Words) (is : List Item) → before i w ≡ items is → (w ≡ items (items_of w)) × (is ≡ i ∷ items_of w)
@@ -29,29 +30,30 @@ short ws fine = go (dec_lt 512 (length ws))
         absurd (let z : ◌≡◌ {A = ℕ} 0 1 = cc in omega arith)
     go (no h) = words-few ws (omega arith)
 
--- with front f and n packets sent: len runs are in l, and the words from index `at` on are to come
-pub record Answering (ws : List ℕ) (f n : ℕ) (e : List ℕ) (answer : List LossRun) (at len : ℕ) (l : List ℕ) : Type 0 where
+-- with front f and n packets sent: the runs so far are in `left`, and the words from index `at` on are to come
+pub record Answering (ws : List ℕ) (f n : ℕ) (given : Runs) (answer : List LossRun) (at : ℕ) (left : Runs) : Type 0 where
   pub within : at ≤ length ws
   pub fine : parse at (drop at ws) ≡ items (items_of (parse at (drop at ws)))
-  pub room : 3 * len + 9 * length (items_of (parse at (drop at ws))) ≤ length e
-  pub same : length l ≡ length e
+  pub room : 3 * left.len + 9 * length (items_of (parse at (drop at ws))) ≤ length given.list.now
+  pub same : SameList given left
   pub runs : List LossRun
-  pub holds : Holds len runs e l
+  pub holds : Holds left.len runs given.list.now left.list.now
   pub rest : add_all runs (runs_at f n (items_of (parse at (drop at ws)))) ≡ answer
 
-pub answering_none : (ws : List ℕ) (f n : ℕ) (e : List ℕ) → Accepted ws e → Answering ws f n e (joined (runs_at f n (items_of (words_of ws)))) 0 0 e
-answering_none ws f n e A =
+pub answering_none : (ws : List ℕ) (f n : ℕ) (given : Runs) → given.len ≡ 0 → Accepted ws given.list.now
+    → Answering ws f n given (joined (runs_at f n (items_of (words_of ws)))) 0 given
+answering_none ws f n given none A =
     let is : words_of ws ≡ parse 0 ws = short ws A.fine in record {
       within = zero-le;
       fine = rw is at A.fine;
-      room = omega (arith, rw is at A.room);
-      same = refl;
+      room = omega (arith, none, rw is at A.room);
+      same = record { name = refl; long = refl };
       runs = [];
-      holds = holds-none e;
+      holds = rw none (holds-none given.list.now);
       rest = rw is (add_all-joined (runs_at f n (items_of (parse 0 ws))));
     }
 
-module _ (ws : List ℕ) (f n : ℕ) (e : List ℕ) (answer : List LossRun) (at len : ℕ) (l : List ℕ) (A : Answering ws f n e answer at len l) where
+module _ (ws : List ℕ) (f n : ℕ) (given : Runs) (answer : List LossRun) (at : ℕ) (left : Runs) (A : Answering ws f n given answer at left) where
   module _ (inside : at < length ws) where
     pub some : 0 < width_of (step_at ws at)
     some = go (dec_lt 0 (width_of (step_at ws at)))
@@ -70,28 +72,28 @@ module _ (ws : List ℕ) (f n : ℕ) (e : List ℕ) (answer : List LossRun) (at 
     unfolding next
     split = behind (item_of (step_at ws at)) (parse next (drop next ws)) (items_of (parse at (drop at ws))) (sym (parse-some ws at some).0 ∙ A.fine)
 
-    pub answering_room : 3 * len + 9 ≤ length l
-    answering_room = omega (arith, A.room, A.same, ap length split.1)
+    pub answering_room : HasRoom 3 left
+    answering_room = omega (arith, A.room, A.same.long, ap length split.1)
 
     pub answering_within : at + width_of (step_at ws at) ≤ length ws
     answering_within = (parse-some ws at some).1
 
-    pub answering_step : (r : ℕ) (l' : List ℕ) → Written len (item_runs_at f n (item_of (step_at ws at))) l r l'
-        → Answering ws f n e answer (at + width_of (step_at ws at)) r l'
+    pub answering_step : (after : Runs) → Written left (item_runs_at f n (item_of (step_at ws at))) after
+        → Answering ws f n given answer (at + width_of (step_at ws at)) after
     unfolding next runs_at
-    answering_step r l' W = record {
-      within = (parse-some ws at some).1;
+    answering_step after W = record {
+      within = answering_within;
       fine = split.0;
       room = omega (arith, A.room, W.few, ap length split.1);
-      same = W.same ∙ A.same;
+      same = record { name = W.same.name ∙ A.same.name; long = W.same.long ∙ A.same.long };
       runs = add_all A.runs (item_runs_at f n (item_of (step_at ws at)));
-      holds = W.holds A.runs e A.holds;
+      holds = W.holds A.runs given.list.now A.holds;
       rest = sym (add_all-append A.runs (item_runs_at f n (item_of (step_at ws at))) (runs_at f n (items_of (parse next (drop next ws)))))
           ∙ ap (λ (is : List Item). add_all A.runs (runs_at f n is)) (sym split.1)
           ∙ A.rest;
     }
 
-  pub answering_all : length ws ≤ at → Holds len answer e l
+  pub answering_all : length ws ≤ at → Holds left.len answer given.list.now left.list.now
   unfolding parse runs_at add_all
   answering_all h =
       let all : answer ≡ A.runs =

@@ -6,13 +6,13 @@ use Prim.Native.Nat.{ℕ, zero, suc, ◌+◌, ◌-◌, ◌≤◌, ◌<◌, min}
 use native.Mathlib.Nat.{not-suc-le-zero}
 use native.Mathlib.Numerals.{add-one, sub-one}
 use native.Mathlib.Omega.{arith}
-use lib.ListN.{length}
 use Rattle.rules_numbers.specs.Modular.{seqs, plus, dist}
 use Rattle.rules_numbers.specs.Modular.Laws.{plus-is}
 use Rattle.rules.specs.Losses.{LossRun, end_of}
+use Rattle.loss_words.specs.declared.runs.Runs.{Runs}
 use Rattle.loss_words.specs.Runs.{run_at, stretch_at, item_runs_at, add, add_all}
 use Rattle.loss_words.specs.Runs.Laws.{Reaches}
-use Rattle.loss_words.specs.Runs.Lent.{Holds, Pushed, Written}
+use Rattle.loss_words.specs.Runs.Lent.{Holds, SameList, Pushed, Written}
 
 pub item_is : (f n a b : ℕ) → item_runs_at f n (record { first = a; last = b }) ≡ stretch_at f n 3 a (dist seqs a b + 1)
 unfolding item_runs_at
@@ -34,32 +34,32 @@ no-turn : (f n i m k : ℕ) → i ≡ 0 → stretch_at f n i m k ≡ []
 unfolding stretch_at
 no-turn f n i m k e = rw e
 
--- the list l₀ with len runs is to get the runs qs; l now has r runs, and the k numbers from m on are left, for at most
--- `left` turns
-pub record Writing (f n : ℕ) (l₀ : List ℕ) (len : ℕ) (qs : List LossRun) (l : List ℕ) (m k r left : ℕ) : Type 0 where
-  pub few : r + left ≤ len + 3
-  pub same : length l ≡ length l₀
-  pub holds : (rs : List LossRun) (e : List ℕ) → Holds len rs e l₀ → (ps : List LossRun) × Holds r ps e l × (add_all ps (stretch_at f n left m k) ≡ add_all rs qs)
+-- the list given is to get the runs qs; now it is as in `left`, and the k numbers from m on are to come, in at most i turns
+pub record Writing (f n : ℕ) (given : Runs) (qs : List LossRun) (left : Runs) (m k i : ℕ) : Type 0 where
+  pub few : left.len + i ≤ given.len + 3
+  pub same : SameList given left
+  pub holds : (rs : List LossRun) (e : List ℕ) → Holds given.len rs e given.list.now
+      → (ps : List LossRun) × Holds left.len ps e left.list.now × (add_all ps (stretch_at f n i m k) ≡ add_all rs qs)
 
-pub writing_none : (f n : ℕ) (l : List ℕ) (len m k : ℕ) → Writing f n l len (stretch_at f n 3 m k) l m k len 3
-writing_none f n l len m k = record { few = omega arith; same = refl; holds = λ rs e H. (rs, H, refl) }
+pub writing_none : (f n : ℕ) (given : Runs) (m k : ℕ) → Writing f n given (stretch_at f n 3 m k) given m k 3
+writing_none f n given m k = record { few = omega arith; same = record { name = refl; long = refl }; holds = λ rs e H. (rs, H, refl) }
 
-module _ (f n : ℕ) (l₀ : List ℕ) (len : ℕ) (qs : List LossRun) (l : List ℕ) (m k r left : ℕ) (W : Writing f n l₀ len qs l m k r left) where
-  pub writing_step : (kind count r' : ℕ) (l' : List ℕ) → 0 < left → 0 < k → Reaches f n m kind count
-      → Pushed r kind m (plus seqs m (min k count)) l r' l' → Writing f n l₀ len qs l' (plus seqs m (min k count)) (k - min k count) r' (left - 1)
+module _ (f n : ℕ) (given : Runs) (qs : List LossRun) (left : Runs) (m k i : ℕ) (W : Writing f n given qs left m k i) where
+  pub writing_step : (kind count : ℕ) (next : Runs) → 0 < i → 0 < k → Reaches f n m kind count
+      → Pushed left kind m (plus seqs m (min k count)) next → Writing f n given qs next (plus seqs m (min k count)) (k - min k count) (i - 1)
   unfolding add_all
-  writing_step kind count r' l' h j R P = record {
+  writing_step kind count next h j R P = record {
     few = omega (arith, W.few, P.few);
-    same = P.same ∙ W.same;
+    same = record { name = P.same.name ∙ W.same.name; long = P.same.long ∙ W.same.long };
     holds = λ rs e H. (
         let w = W.holds rs e H in
         let q : LossRun = run_at f n m k in
         let end : plus seqs m (min k count) ≡ end_of q = rw R.far (plus-is seqs m q.count) in
-        (add w.0 q, P.holds w.0 e q w.1 R.is refl end, rw R.far (ap (add_all w.0) (sym (turn f n left m k h j)) ∙ w.2))
+        (add w.0 q, P.holds w.0 e q w.1 R.is refl end, rw R.far (ap (add_all w.0) (sym (turn f n i m k h j)) ∙ w.2))
         );
   }
 
-  done : stretch_at f n left m k ≡ [] → Written len qs l₀ r l
+  done : stretch_at f n i m k ≡ [] → Written given qs left
   unfolding add_all
   done none = record {
     few = omega (arith, W.few);
@@ -71,8 +71,8 @@ module _ (f n : ℕ) (l₀ : List ℕ) (len : ℕ) (qs : List LossRun) (l : List
         );
   }
 
-  pub writing_all : k < 1 → Written len qs l₀ r l
-  writing_all h = done (none_left f n left m k (omega arith))
+  pub writing_all : k < 1 → Written given qs left
+  writing_all h = done (none_left f n i m k (omega arith))
 
-  pub writing_end : left ≤ 0 → Written len qs l₀ r l
-  writing_end h = done (no-turn f n left m k (omega arith))
+  pub writing_end : i ≤ 0 → Written given qs left
+  writing_end h = done (no-turn f n i m k (omega arith))

@@ -3,6 +3,7 @@
 -- maximal runs of one kind and consecutive numbers, also across items; each has an exclusive end." Here f is the front,
 -- and n packets are sent from there on.
 --   code_of k                      the number of a kind in the list: 1 Added, 2 Ignored, 3 Dropped
+--   word_of k                      the same of a kind as the code has it
 --   words_for rs                   three words per run: its kind, its first number, its exclusive end
 --   kind_at, reach_at f n m        the kind of the number m; how many consecutive numbers from m on are of that kind
 --                                  (reach_by)
@@ -14,12 +15,19 @@ pub mod Laws
 pub mod Lent
 use Rattle.std.specs.Prelude.{cond, List, [], ◌∷◌, ◌++◌, ℕ, zero, suc, ◌+◌, ◌-◌, ◌^◌, min, ltb}
 use Rattle.rules_numbers.specs.Modular.{seqs, plus, dist}
+use Rattle.loss_words.specs.declared.runs.Kind.{Kind}
+use Rattle.loss_words.specs.declared.runs.Kind.TheVariants as kinds
 use Rattle.rules.specs.Losses.{Item, LossKind, Added, Ignored, Dropped, LossRun, kind_by, end_of, meets}
 
 abbrev pub code_of : LossKind → ℕ
 code_of Added = 1
 code_of Ignored = 2
 code_of Dropped = 3
+
+abbrev pub word_of : Kind → ℕ
+word_of kinds.Added = 1
+word_of kinds.Ignored = 2
+word_of kinds.Dropped = 3
 
 unfoldable pub words_for : List LossRun → List ℕ
 words_for [] = []

@@ -5,14 +5,15 @@
 --   step_at ws at   what is at index `at`
 --   width_of s      how many words it takes; 0 if it is not an item
 --   item_of s       its item; a single number is its own first and last
---   judged w        the answer to a report: how many items, or the index of the first word of the first bad one
+--   judged w        the answer to a report: how many items, or refusal 12 with the index of the first word of the first
+--                   bad one
 pub mod Laws
-use Rattle.std.specs.Prelude.{cond, List, [], ◌∷◌, ℕ, ◌-◌, ◌^◌, ltb, length, drop}
+use Rattle.std.specs.Prelude.{cond, List, [], ◌∷◌, ℕ, ◌-◌, ◌^◌, ltb, length, drop, Result, Ok, Err}
+use Rattle.rules_refusals.specs.declared.Refusal.{Refusal}
+use Rattle.rules_refusals.specs.declared.Refusal.TheVariants.{BadNak}
 use Rattle.rules.specs.Losses.{Item, Words, items, bad, is_range}
 use Rattle.loss_words.specs.declared.Step.{Step}
 use Rattle.loss_words.specs.declared.Step.TheVariants.{One, Range, Bad, End}
-use Rattle.loss_words.specs.declared.Report.{Report}
-use Rattle.loss_words.specs.declared.Report.TheVariants.{Items, BadNak}
 
 unfoldable pub step : List ℕ → Step
 step [] = End
@@ -34,6 +35,6 @@ item_of (Range a b) = record { first = a; last = b }
 item_of Bad = record { first = 0; last = 0 }
 item_of End = record { first = 0; last = 0 }
 
-abbrev pub judged : Words → Report
-judged (items is) = Items (length is)
-judged (bad index) = BadNak index
+abbrev pub judged : Words → Result ℕ Refusal
+judged (items is) = Ok (length is)
+judged (bad index) = Err (BadNak index)

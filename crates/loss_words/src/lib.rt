@@ -6,10 +6,12 @@ ghost use Rattle.rules.specs.Losses.{words_of};
 ghost use Rattle.loss_words.specs.Words.{step_at, width_of, item_of, judged};
 
 use rules_numbers::SeqNumber;
+use rules_refusals::Refusal;
 
 pub mod runs;
 
 // What is at a place of the report: one number, a range with its inclusive last, a malformed item, or the end.
+// Not a `Result`: `loss_reader::next` promises each of the four, and its place stays at the last two.
 #[derive(Clone, Copy)]
 pub enum Step {
     One(u32),
@@ -18,29 +20,19 @@ pub enum Step {
     End,
 }
 
-// A report: how many items it has, or the index of the first word of its first bad item, for refusal 12, BadNak.
-#[derive(Clone, Copy)]
-pub enum Report {
-    Items(usize),
-    BadNak(u32),
-}
-
-// What is at index `at`.
+// What is at index `at`. Words and a place, as docs/ promise it.
 pub fn step_at(words: &[u32], at: usize) -> Step
     ensures { result ≡ step_at words.now at }
 {
-    if words.len() <= at {
+    let Some(&w) = words.get(at) else {
         return Step::End;
-    }
-    let w = words[at];
+    };
     if w < 0x8000_0000 {
         return Step::One(w);
     }
-    let next = at + 1;
-    if words.len() <= next {
+    let Some(&last) = words.get(at + 1) else {
         return Step::Bad;
-    }
-    let last = words[next];
+    };
     if 0x8000_0000 <= last {
         return Step::Bad;
     }
@@ -52,27 +44,14 @@ pub fn step_at(words: &[u32], at: usize) -> Step
 }
 
 impl Step {
-    // The first number of the item.
-    pub fn first(self) -> u32
-        ensures { result ≡ (item_of self).first }
+    // The first and the last number of the item; 0 if it is not an item.
+    pub fn ends(self) -> (u32, u32)
+        ensures { result ≡ ((item_of self).first, (item_of self).last) }
     {
         match self {
-            Step::One(a) => a,
-            Step::Range(a, _) => a,
-            Step::Bad => 0,
-            Step::End => 0,
-        }
-    }
-
-    // The last number of the item.
-    pub fn last(self) -> u32
-        ensures { result ≡ (item_of self).last }
-    {
-        match self {
-            Step::One(a) => a,
-            Step::Range(_, b) => b,
-            Step::Bad => 0,
-            Step::End => 0,
+            Step::One(a) => (a, a),
+            Step::Range(a, b) => (a, b),
+            Step::Bad | Step::End => (0, 0),
         }
     }
 
@@ -83,28 +62,28 @@ impl Step {
         match self {
             Step::One(_) => 1,
             Step::Range(_, _) => 2,
-            Step::Bad => 0,
-            Step::End => 0,
+            Step::Bad | Step::End => 0,
         }
     }
 }
 
 // Reads a whole report.
-pub fn judge(words: &[u32]) -> Report
+pub fn judge(words: &[u32]) -> Result<usize, Refusal>
     ensures { result ≡ judged (words_of words.now) }
 {
     if 512 < words.len() {
-        return Report::BadNak(512);
+        return Err(Refusal::BadNak { index: 512 });
     }
     let mut at = 0;
     let mut n = 0;
+    // Not a `for`: an item takes one word or two, and the reader of items, a crate above, answers with a `Step`.
     while at < words.len() {
         let width = step_at(words, at).width();
         if width < 1 {
-            return Report::BadNak(at as u32);
+            return Err(Refusal::BadNak { index: at as u32 });
         }
         at += width;
         n += 1;
     }
-    Report::Items(n)
+    Ok(n)
 }

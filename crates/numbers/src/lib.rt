@@ -1,5 +1,6 @@
 // Sequence numbers and message numbers: document 01, "Numbers and their ends"; the Rust source doesn't include them.
-// They are two types, so that one can't be used for the other. What holds of both is proved once, over the modulus.
+// They are two types, so that one can't be used for the other. What holds of both is proved once, over the modulus. A trait with the modulus
+// would be longer than the three sums.
 #![tactic(auto)]
 
 ghost use Rattle.std.specs.Prelude.{◌≡◌};
@@ -11,19 +12,19 @@ use rules_numbers::{MsgNumber, SeqNumber};
 pub fn plus(from: SeqNumber, k: u32) -> SeqNumber
     ensures { result.0 ≡ plus seqs from.0 k }
 {
-    SeqNumber(std::num::wrapping_add_u32(from.0, k) % 0x8000_0000)
+    SeqNumber(from.0.wrapping_add(k) % 0x8000_0000)
 }
 
 // How far `to` lies after `from`.
 pub fn distance(from: SeqNumber, to: SeqNumber) -> u32
     ensures { result ≡ dist seqs from.0 to.0 }
 {
-    std::num::wrapping_sub_u32(to.0, from.0) % 0x8000_0000
+    to.0.wrapping_sub(from.0) % 0x8000_0000
 }
 
 // The message number after this one; it wraps to 0.
 pub fn next_message(n: MsgNumber) -> MsgNumber
     ensures { result.0 ≡ plus msgs n.0 1 }
 {
-    MsgNumber(std::num::wrapping_add_u32(n.0, 1) % 0x0400_0000)
+    MsgNumber(n.0.wrapping_add(1) % 0x0400_0000)
 }

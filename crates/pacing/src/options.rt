@@ -22,7 +22,7 @@ pub(crate) fn mode_in_range(mode: LiveBandwidthMode) -> bool
 fn within(rate: u64, overhead: u64) -> bool
     ensures { result ≡ (leb rate (2 ^ 40) && leb overhead 10_000) }
 {
-    (rate <= RATE_MOST) & (overhead <= OVERHEAD_MOST)
+    rate <= RATE_MOST && overhead <= OVERHEAD_MOST
 }
 
 // The rate plus its overhead in percent: multiplied first, divided once.

@@ -7,39 +7,36 @@
 --   payload               the call
 pub mod Laws
 pub mod Stands
-use Rattle.std.specs.Prelude.{cond, List, ℕ, ◌*◌, ◌^◌, ltb, leb, eqb, length}
+use Rattle.std.specs.Prelude.{cond, List, ℕ, ◌*◌, ◌^◌, ltb, leb, eqb, length, Option, Some, None, Result, Ok, Err}
 use Rattle.rules_numbers.specs.declared.SeqNumber.{SeqNumber}
 use Rattle.rules_numbers.specs.Modular.{seqs, dist}
 use Rattle.rules_refusals.specs.declared.Refusal.TheVariants.{BadNumber, NotHeld}
-use Rattle.rules_refusals.specs.declared.Verdict.{Verdict}
-use Rattle.rules_refusals.specs.declared.Verdict.TheVariants.{Accepted}
-use Rattle.rules_refusals.specs.Verdict.{when, answer}
+use Rattle.rules_refusals.specs.Verdict.{Verdict, accepted, when, answer}
 use Rattle.ring.specs.Entry.{read_e}
 use Rattle.ring.specs.Ring.{slot_of}
-use Rattle.buffer.specs.declared.Flushed.{Flushed}
-use Rattle.buffer.specs.declared.Flushed.TheVariants as flushed
 use Rattle.sender.specs.declared.Sender.{Sender}
 use Rattle.sender.specs.SenderAndAreas.{Books}
 use Rattle.sender.specs.Calls.{then, judge_with_store}
-use Rattle.payload.specs.declared.Found.{Found}
-use Rattle.payload.specs.declared.Found.TheVariants.{Held, Refused}
+use Rattle.rules_refusals.specs.declared.Refusal.{Refusal}
+use Rattle.buffer.specs.declared.FlushedPacket.{FlushedPacket}
+use Rattle.payload.specs.declared.Lies.{Lies}
 
-abbrev pub held_at : ℕ → ℕ → SeqNumber → ℕ → ℕ → Found
-held_at size number n slot len = cond (eqb n.0 number) (Held (record { place = slot * size; len = len })) (Refused NotHeld)
+abbrev pub held_at : ℕ → ℕ → SeqNumber → ℕ → ℕ → Result Lies Refusal
+held_at size number n slot len = cond (eqb n.0 number) (Ok (record { place = slot * size; len = len })) (Err NotHeld)
 
-abbrev pub flushed_at : ℕ → ℕ → Flushed → Found
-flushed_at size number flushed.Nothing = Refused NotHeld
-flushed_at size number (flushed.Held n slot len) = held_at size number n slot len
+abbrev pub flushed_at : ℕ → ℕ → Option FlushedPacket → Result Lies Refusal
+flushed_at size number None = Err NotHeld
+flushed_at size number (Some p) = held_at size number p.number p.slot p.len
 
-unfoldable pub find_in : Sender → ℕ → List ℕ → Found
+unfoldable pub find_in : Sender → ℕ → List ℕ → Result Lies Refusal
 find_in s number ring =
     let r = s.buffer.ring in
     let d = dist seqs s.buffer.front.0 number in
     let size = s.settings.size in
-    cond (ltb d r.len) (Held (record { place = slot_of r d * size; len = (read_e ring (slot_of r d)).len })) (flushed_at size number s.buffer.flushed)
+    cond (ltb d r.len) (Ok (record { place = slot_of r d * size; len = (read_e ring (slot_of r d)).len })) (flushed_at size number s.buffer.flushed)
 
 unfoldable pub payload_verdict : Books → ℕ → ℕ → Verdict
-payload_verdict g n store = then (judge_with_store g store) (when (leb (2 ^ 31) n) BadNumber Accepted)
+payload_verdict g n store = then (judge_with_store g store) (when (leb (2 ^ 31) n) BadNumber accepted)
 
-unfoldable pub payload : Books → ℕ → List ℕ → Found
-payload g n store = answer Refused (payload_verdict g n (length store)) (find_in g.sender n g.ring)
+unfoldable pub payload : Books → ℕ → List ℕ → Result Lies Refusal
+payload g n store = answer Err (payload_verdict g n (length store)) (find_in g.sender n g.ring)

@@ -7,14 +7,10 @@
 --   ack, payload, reports                     these change nothing lent
 pub mod Coincide
 pub mod Laws
-use Rattle.std.specs.Prelude.{Bool, List, ℕ}
-use Rattle.buffer_ack.specs.declared.FullAck.{FullAck}
-use Rattle.buffer_ack.specs.declared.AckRtt.{AckRtt}
+use Rattle.std.specs.Prelude.{Bool, List, ℕ, Option, Result}
 use Rattle.sender.specs.SenderAndAreas.{Books, books}
 use Rattle.sender.specs.Calls as Calls
 use Rattle.sender.specs.Acks as Acks
-use Rattle.payload.specs.declared.Found.{Found}
-use Rattle.reports.specs.declared.Told.{Told}
 use Rattle.nak.specs.Naks as Naks
 use Rattle.payload.specs.Payload as Payload
 use Rattle.reports.specs.Reports as Reports
@@ -26,6 +22,10 @@ use Rattle.host_structs.specs.declared.replies.NakAnswer.{NakAnswer}
 use Rattle.host_structs.specs.declared.replies.RunAnswer.{RunAnswer}
 use Rattle.host_structs.specs.Senders.{sender_of}
 use Rattle.host_structs.specs.Replies.{message_of, ack_of, nak_of, run_of}
+use Rattle.rules_refusals.specs.declared.Refusal.{Refusal}
+use Rattle.payload.specs.declared.Lies.{Lies}
+use Rattle.reports.specs.declared.BufferReports.{BufferReports}
+use Rattle.rules_numbers.specs.declared.Rtt.{Rtt}
 
 abbrev pub books_of : FlatSender → List ℕ → List ℕ → Books
 books_of f ring lost = books (sender_of f) ring lost
@@ -45,7 +45,7 @@ message_by f l = messaged (message_of f l.answer) l.ring l.lost l.store
 unfoldable pub message : FlatSender → ℕ → ℕ → List ℕ → List ℕ → List ℕ → List ℕ → Messaged
 message f time now payload ring lost store = message_by f (Calls.message (books_of f ring lost) time now payload store)
 
-unfoldable pub ack : FlatSender → ℕ → FullAck → AckRtt → List ℕ → List ℕ → AckAnswer
+unfoldable pub ack : FlatSender → ℕ → Option ℕ → Option Rtt → List ℕ → List ℕ → AckAnswer
 ack f n full rtt ring lost = ack_of f (Acks.ack (books_of f ring lost) n full rtt)
 
 pub record Reported : Type 0 where
@@ -77,8 +77,8 @@ run_by f l = ran (run_of f l.answer) l.ring l.lost l.out
 unfoldable pub run : FlatSender → ℕ → ℕ → Bool → List ℕ → List ℕ → List ℕ → Ran
 run f now p draining ring lost out = run_by f (Runs.run (books_of f ring lost) now p draining out)
 
-abbrev pub payload : FlatSender → ℕ → List ℕ → List ℕ → List ℕ → Found
+abbrev pub payload : FlatSender → ℕ → List ℕ → List ℕ → List ℕ → Result Lies Refusal
 payload f n ring lost store = Payload.payload (books_of f ring lost) n store
 
-abbrev pub reports : FlatSender → List ℕ → List ℕ → Told
+abbrev pub reports : FlatSender → List ℕ → List ℕ → Result BufferReports Refusal
 reports f ring lost = Reports.reports (books_of f ring lost)

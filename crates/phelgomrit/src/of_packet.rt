@@ -6,21 +6,17 @@ ghost use Rattle.phelgomrit.specs.Packet.{place_of};
 use rules_numbers::{MsgNumber, SeqNumber};
 use rules_packets::Place;
 
-// The place given by the low two bits.
+// The place given by the low two bits. Not a `From`: `Place` is another crate's.
+#[tactic(auto, unfolding(crate::specs::Packet::place_of))]
 pub fn place_of(bits: u32) -> Place
     ensures { result ≡ place_of bits }
 {
-    let low = bits % 4;
-    if low == 0 {
-        return Place::Middle;
+    match bits % 4 {
+        0 => Place::Middle,
+        1 => Place::Last,
+        2 => Place::First,
+        _ => Place::Only,
     }
-    if low == 1 {
-        return Place::Last;
-    }
-    if low == 2 {
-        return Place::First;
-    }
-    Place::Only
 }
 
 // The sixteen header bytes, made from the low bits of the place, the number and the message number.

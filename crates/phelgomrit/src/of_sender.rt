@@ -20,10 +20,11 @@ pub fn phel_entry_new(settings: Settings, mode: u32, rate: u64, overhead: u64) -
     ensures { result ≡ new_of (made settings (mode_of mode rate overhead)) }
 {
     let mode = host_structs::pacings::mode_of(mode, rate, overhead);
-    host_structs::starts::new_answer(Sender::new(settings, mode))
+    NewAnswer::from(Sender::new(settings, mode))
 }
 
 // A message with its time, pushed at `ts_now`.
+#[tactic(auto, unfolding(crate::specs::Entries::message))]
 pub fn phel_entry_message(
     given: FlatSender,
     time: u64,
@@ -36,12 +37,13 @@ pub fn phel_entry_message(
     ensures { messaged result ring.new lost.now store.new
         ≡ message given time ts_now payload.now ring.old lost.now store.old }
 {
-    let s = given.sender();
+    let s = Sender::from(given);
     let answer = s.message(time, ts_now, payload, ring, lost, store);
     host_structs::replies::message_answer(given, answer)
 }
 
 // An ACK; `full` says whether it has a full number, `measured` whether it has a round-trip time.
+#[tactic(auto, unfolding(crate::specs::Entries::ack))]
 pub fn phel_entry_ack(
     given: FlatSender,
     ack_number: u32,
@@ -54,14 +56,15 @@ pub fn phel_entry_ack(
 ) -> AckAnswer
     ensures { result ≡ ack given ack_number (full_of full full_number) (rtt_of measured rtt) ring.now lost.now }
 {
-    let s = given.sender();
-    let full_ack = host_structs::acks::full_of(full, full_number);
-    let brought = host_structs::acks::rtt_of(measured, rtt);
+    let s = Sender::from(given);
+    let full_ack = full.then_some(full_number);
+    let brought = measured.then_some(rtt);
     let answer = s.ack(ack_number, full_ack, brought, ring, lost);
     host_structs::acks::ack_answer(given, answer)
 }
 
 // A loss report; the runs of the answer are written to `out`.
+#[tactic(auto, unfolding(crate::specs::Entries::nak))]
 pub fn phel_entry_nak(
     given: FlatSender,
     words: &[u32],
@@ -72,11 +75,12 @@ pub fn phel_entry_nak(
     ensures { reported result lost.new out.new
         ≡ nak given words.now ring.now lost.old out.old }
 {
-    let answer = nak::nak(given.sender(), words, ring, lost, out);
+    let answer = nak::nak(Sender::from(given), words, ring, lost, out);
     host_structs::replies::nak_answer(given, answer)
 }
 
 // A run at `ts_now`; the records are written to `out`.
+#[tactic(auto, unfolding(crate::specs::Entries::run))]
 pub fn phel_entry_run(
     given: FlatSender,
     ts_now: u64,
@@ -89,7 +93,7 @@ pub fn phel_entry_run(
     ensures { ran result ring.new lost.now out.new
         ≡ run given ts_now budget draining ring.old lost.now out.old }
 {
-    let s = given.sender();
+    let s = Sender::from(given);
     let answer = run::run(s, ts_now, budget, draining, ring, lost, out);
     host_structs::replies::run_answer(given, answer)
 }
@@ -104,18 +108,13 @@ pub fn phel_entry_payload(
 ) -> PayloadAnswer
     ensures { result ≡ payload_of (payload given number ring.now lost.now store.now) }
 {
-    host_structs::questions::payload_answer(payload::payload(
-        given.sender(),
-        number,
-        ring,
-        lost,
-        store,
-    ))
+    let s = Sender::from(given);
+    PayloadAnswer::from(payload::payload(s, number, ring, lost, store))
 }
 
 // The reports.
 pub fn phel_entry_reports(given: FlatSender, ring: &[u64], lost: &[u32]) -> ReportsAnswer
     ensures { result ≡ reports_of (reports given ring.now lost.now) }
 {
-    host_structs::questions::reports_answer(reports::reports(given.sender(), ring, lost))
+    ReportsAnswer::from(reports::reports(Sender::from(given), ring, lost))
 }

@@ -6,7 +6,7 @@ ghost use Rattle.rules_timers.specs.Checks.{check_snd, check_full_ack, check_nak
 ghost use Rattle.host_timers.specs.TimersAnswers.{nanoseconds, blanks, timers_set, timers_checked, next_message};
 
 use host_timers::{
-    NanosecondsAnswer, TimersAnswer, blanks, nanoseconds, next_message, timers_checked, timers_set,
+    NanosecondsAnswer, TimersAnswer, blanks, next_message, timers_checked, timers_set,
 };
 use rules_numbers::Rtt;
 use rules_timers::Timers;
@@ -29,13 +29,13 @@ pub fn phel_entry_timers_next_timer(
 ) -> NanosecondsAnswer
     ensures { result ≡ nanoseconds (next_timer timers now packets (next_message known message) unacked) }
 {
-    nanoseconds(timer_checks::wake::next_timer(
+    timer_checks::wake::next_timer(
         timers,
         now,
         packets,
         next_message(known, message),
         unacked,
-    ))
+    ).into()
 }
 
 pub fn phel_entry_timers_check_snd(timers: Timers, now: u64) -> TimersAnswer

@@ -3,17 +3,17 @@
 #![tactic(auto)]
 
 use rules_numbers::{MsgNumber, SeqNumber};
-use rules_packets::{Cutting, Place, Split};
-use rules_timers::{Timer, TimersSet};
+use rules_packets::Place;
+use rules_timers::Timer;
 use std::io;
 
 // A message of `len` bytes in packets of four: how many, and the place of the first.
 fn split(rt: &impl Print, len: usize) -> io::Result<()> {
     print!(rt; "size 4, length {len}")?;
-    if let Split::Packets(n) = encapsulate::packets(len, 4) {
+    if let Ok(n) = encapsulate::packets(len, 4) {
         print!(rt; ": {n}")?;
     }
-    if let Cutting::Done(piece) = encapsulate::packet(len, 4, 0) {
+    if let Ok(Some(piece)) = encapsulate::packet(len, 4, 0) {
         let bits = encapsulate::place_bits(piece.place);
         print!(rt; " packets, the first with place {}{}", bits / 2, bits % 2)?;
     }
@@ -22,11 +22,11 @@ fn split(rt: &impl Print, len: usize) -> io::Result<()> {
 
 // A header's sixteen bytes as four words in hex.
 fn show(rt: &impl Print, h: [u8; 16]) -> io::Result<()> {
-    for i in 0..16 {
-        if i % 4 == 0 {
-            print!(rt; " ")?;
+    for word in h.chunks(4) {
+        print!(rt; " ")?;
+        for b in word {
+            print!(rt; "{b:02x}")?;
         }
-        print!(rt; "{:02x}", h[i])?;
     }
     println!(rt;)
 }
@@ -70,7 +70,7 @@ fn main(rt: HostRuntime) -> io::Result<()> {
     only(out, false, 0x09d9_589a, 2, 0x6ee, 0x3900_e136)?;
     only(out, true, 0x09d9_5cc6, 0x42e, 0xbe0, 0x3900_e136)?;
     println!(out; "the timers at the start:")?;
-    if let TimersSet::Done(ts) = timers::new(0, 1_000_000_000, 5_000_000_000) {
+    if let Ok(ts) = timers::new(0, 1_000_000_000, 5_000_000_000) {
         period(out, "SND", ts.snd)?;
         period(out, "ACK", ts.full_ack)?;
         period(out, "NAK", ts.nak)?;

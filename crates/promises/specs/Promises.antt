@@ -8,17 +8,13 @@
 --   started         a fresh sender in lent areas
 pub mod Coincide
 pub mod Refusals
-use Rattle.std.specs.Prelude.{List, [], ◌∷◌, ℕ, ◌/◌, ◌^◌, ◌<◌, Bool, length, get_or}
+use Rattle.std.specs.Prelude.{List, [], ◌∷◌, ℕ, ◌/◌, ◌^◌, ◌<◌, Bool, length, get_or, Option, Some, None}
 use Rattle.rules_pacing.specs.declared.LiveBandwidthMode.{LiveBandwidthMode}
 use Rattle.rules_pacing.specs.Kept as Pacing
 use Rattle.rules.specs.Calls as rules
 use Rattle.rules.specs.Sender.{Sender}
 use Rattle.buffer.specs.declared.Settings.{Settings}
 use Rattle.buffer.specs.State.{settings_of, fresh}
-use Rattle.buffer_ack.specs.declared.FullAck.{FullAck}
-use Rattle.buffer_ack.specs.declared.FullAck.TheVariants as full
-use Rattle.buffer_ack.specs.declared.AckRtt.{AckRtt}
-use Rattle.buffer_ack.specs.Ack.{full_of, rtt_of}
 use Rattle.sender.specs.SenderAndAreas.{Books, books, rules_of}
 use Rattle.sender.specs.Calls as Messages
 use Rattle.sender.specs.Calls.{sender_of}
@@ -31,6 +27,7 @@ use Rattle.payload.specs.Payload as Payloads
 use Rattle.payload.specs.Payload.Stands as Payload
 use Rattle.run.specs.Runs as Runs
 use Rattle.run.specs.Runs.Stands as Run
+use Rattle.rules_numbers.specs.declared.Rtt.{Rtt}
 
 pub record World : Type 0 where
   pub books : Books
@@ -38,7 +35,7 @@ pub record World : Type 0 where
 
 pub data Call : Type 0 where
   message : (time now : ℕ) → (payload : List ℕ) → Call
-  ack : (number : ℕ) → (full : FullAck) → (rtt : AckRtt) → Call
+  ack : (number : ℕ) → (full : Option ℕ) → (rtt : Option Rtt) → Call
   nak : (words list : List ℕ) → Call
   run : (now budget : ℕ) → (draining : Bool) → (list : List ℕ) → Call
   payload : (number : ℕ) → Call
@@ -46,14 +43,14 @@ pub data Call : Type 0 where
 -- room is counted in runs of three words, and in records of 24 bytes
 abbrev pub rule_of : Call → rules.Call
 rule_of (message time now bytes) = rules.message time now bytes
-rule_of (ack n full rtt) = rules.ack n (full_of full) (rtt_of rtt)
+rule_of (ack n full rtt) = rules.ack n full rtt
 rule_of (nak words list) = rules.nak words (length list / 3)
 rule_of (run now p draining list) = rules.runs now p draining (length list / 24)
 rule_of (payload n) = rules.payload n
 
-abbrev FullFits : FullAck → Type 0
-FullFits full.None = Unit {0}
-FullFits (full.Number n) = n < 2 ^ 32
+abbrev FullFits : Option ℕ → Type 0
+FullFits None = Unit {0}
+FullFits (Some n) = n < 2 ^ 32
 
 abbrev pub Fits : Call → Type 0
 Fits (message time now bytes) = Unit {0}

@@ -1,8 +1,9 @@
-// How much comes in per second, estimated from the counts: document 01, "Pacing"; the Rust's `RateEstimation`.
+// How much comes in per second, estimated from the counts: document 01, "Pacing"; the Rust's `RateEstimation`. C's structs
+// hold one as any numbers, so its ranges stand in the contracts.
 #![tactic(auto)]
 
 ghost use Rattle.std.specs.Prelude.{◌≡◌, cond, ◌+◌, ◌≤◌, ◌<◌, ◌^◌};
-ghost use Rattle.rules_pacing.specs.Rate.{elapsed, rate, still, new_mean, apart, estimate, increment, passes, in_range};
+ghost use Rattle.rules_pacing.specs.Rate.{elapsed, rate, still, new_mean, estimate, increment, passes, in_range};
 ghost use Rattle.rate.specs.Laws.{Ranged};
 
 use rules_pacing::RateEstimation;
@@ -26,12 +27,6 @@ fn rate(count: u64, time: u64) -> u64
     count * 1_000_000 / time
 }
 
-fn apart(a: u64, b: u64) -> u64
-    ensures { result ≡ apart a b }
-{
-    if a < b { b - a } else { a - b }
-}
-
 // The count since the last estimate; an estimate that is due is taken as made.
 pub fn since(due: bool, count: u64) -> u64
     ensures { result ≡ cond due 0 count }
@@ -39,22 +34,18 @@ pub fn since(due: bool, count: u64) -> u64
     if due { 0 } else { count }
 }
 
-// Whether `more` on top of `count` passes the most that may be counted. They may be any numbers: their sum, which might
-// not fit, isn't computed.
+// Whether `more` on top of `count` passes the most that may be counted. They may be any numbers: a sum that doesn't fit
+// passes too.
 pub fn passes(count: u64, more: u64) -> bool
     ensures { result ≡ passes count more }
 {
-    if count <= COUNT_MOST {
-        COUNT_MOST - count < more
-    } else {
-        true
-    }
+    COUNT_MOST < count.saturating_add(more)
 }
 
 pub fn in_range(e: RateEstimation) -> bool
     ensures { result ≡ in_range e }
 {
-    (e.count <= COUNT_MOST) & (e.mean <= MEAN_MOST) & (e.variance <= MEAN_MOST)
+    e.count <= COUNT_MOST && e.mean <= MEAN_MOST && e.variance <= MEAN_MOST
 }
 
 pub fn increment(e: RateEstimation, count: u64) -> RateEstimation
@@ -63,19 +54,19 @@ pub fn increment(e: RateEstimation, count: u64) -> RateEstimation
 {
     RateEstimation {
         count: e.count + count,
-        mean: e.mean,
-        variance: e.variance,
+        ..e
     }
 }
 
 // The estimate over `time` microseconds.
+#[tactic(auto, unfolding(rules_pacing::specs::Rate::estimate))]
 pub fn calculate(e: RateEstimation, time: u64) -> RateEstimation
     requires { Ranged e × (100_000 ≤ time) }
     ensures { result ≡ estimate time e }
 {
     let rate = rate(e.count, time);
     let mean = new_mean(e, rate);
-    let diff = apart(mean, rate);
+    let diff = mean.abs_diff(rate);
     let variance = (3 * e.variance + diff) / 4;
     RateEstimation {
         count: 0,
@@ -85,6 +76,7 @@ pub fn calculate(e: RateEstimation, time: u64) -> RateEstimation
 }
 
 // The mean follows a rise faster than a fall.
+#[tactic(auto, unfolding(rules_pacing::specs::Rate::new_mean))]
 fn new_mean(e: RateEstimation, rate: u64) -> u64
     requires { (e.mean ≤ 2 ^ 42) × (rate ≤ 2 ^ 42) }
     ensures { (result ≡ new_mean e rate) × (result ≤ 2 ^ 42) }
@@ -101,5 +93,5 @@ fn new_mean(e: RateEstimation, rate: u64) -> u64
 fn still(e: RateEstimation) -> bool
     ensures { result ≡ still e }
 {
-    (e.mean == 0) & (e.variance == 0)
+    e.mean == 0 && e.variance == 0
 }

@@ -4,13 +4,11 @@
 --   first-accepts, none-accepts  a call is accepted exactly if no test holds
 --   first-least                  no test that holds has a refusal that stands before the one that is told
 --   first-joined                 tests after tests: the later ones decide where the earlier ones accept
-use Rattle.std.specs.Prelude.{◌≡◌, refl, Bool, true, false, List, [], ◌∷◌, ◌++◌, ◌≤◌, leb}
+use Rattle.std.specs.Prelude.{◌≡◌, refl, Bool, true, false, List, [], ◌∷◌, ◌++◌, ◌≤◌, leb, Err}
 use Rattle.std.proofs.Common.{sym, ap, ◌∙◌, true≢false, arith, leb-true}
 use Rattle.std.proofs.Math.Bool.{and-eq-true_iff}
 use Rattle.rules_refusals.specs.declared.Refusal.{Refusal}
-use Rattle.rules_refusals.specs.declared.Verdict.{Verdict}
-use Rattle.rules_refusals.specs.declared.Verdict.TheVariants.{Accepted, Refused}
-use Rattle.rules_refusals.specs.Verdict.{when, answer}
+use Rattle.rules_refusals.specs.Verdict.{Verdict, accepted, refused, when, answer}
 use Rattle.rules_refusals.specs.Order.{Test, test, place, first_of, none_before, in_order}
 use Rattle.refusals.specs.Laws.{never}
 
@@ -29,32 +27,32 @@ pub record Decides (ts : List Test) (r : Refusal) : Type 0 where
   pub none : Each (λ (t : Test). t.holds ≡ false) earlier
 
 -- the verdict of a chain, by whether its first test holds
-same : (r q : Refusal) → Refused r ≡ Refused q → r ≡ q
+same : (r q : Refusal) → refused r ≡ refused q → r ≡ q
 same r q e = ap (λ (v : Verdict). answer (λ x. x) v r) e
 
-pub first-decides : (ts : List Test) (r : Refusal) → first_of ts ≡ Refused r → Decides ts r
+pub first-decides : (ts : List Test) (r : Refusal) → first_of ts ≡ Err r → Decides ts r
 unfolding first_of
 first-decides [] r e = never r (sym e)
 first-decides (t ∷ ts) r e = go t.holds refl (λ k. first-decides ts r k) e
   where
-    go : (b : Bool) → t.holds ≡ b → (first_of ts ≡ Refused r → Decides ts r) → when b t.refusal (first_of ts) ≡ Refused r → Decides (t ∷ ts) r
+    go : (b : Bool) → t.holds ≡ b → (first_of ts ≡ Err r → Decides ts r) → when b t.refusal (first_of ts) ≡ Err r → Decides (t ∷ ts) r
     go true h rest k = record { earlier = []; later = ts; is = ap (λ (x : Test). x ∷ ts) (rw (h, same t.refusal r k)); none = tt }
     go false h rest k =
         let D = rest k in
         record { earlier = t ∷ D.earlier; later = D.later; is = ap (λ (l : List Test). t ∷ l) D.is; none = (h, D.none) }
 
-pub first-accepts : (ts : List Test) → first_of ts ≡ Accepted → Each (λ (t : Test). t.holds ≡ false) ts
+pub first-accepts : (ts : List Test) → first_of ts ≡ accepted → Each (λ (t : Test). t.holds ≡ false) ts
 unfolding first_of
 first-accepts [] e = tt
 first-accepts (t ∷ ts) e = go t.holds refl (λ k. first-accepts ts k) e
   where
-    go : (b : Bool) → t.holds ≡ b → (first_of ts ≡ Accepted → Each (λ (u : Test). u.holds ≡ false) ts)
-        → when b t.refusal (first_of ts) ≡ Accepted
+    go : (b : Bool) → t.holds ≡ b → (first_of ts ≡ accepted → Each (λ (u : Test). u.holds ≡ false) ts)
+        → when b t.refusal (first_of ts) ≡ accepted
         → (t.holds ≡ false) × Each (λ (u : Test). u.holds ≡ false) ts
     go true h rest k = never t.refusal k
     go false h rest k = (h, rest k)
 
-pub none-accepts : (ts : List Test) → Each (λ (t : Test). t.holds ≡ false) ts → first_of ts ≡ Accepted
+pub none-accepts : (ts : List Test) → Each (λ (t : Test). t.holds ≡ false) ts → first_of ts ≡ accepted
 unfolding first_of
 none-accepts [] e = refl
 none-accepts (t ∷ ts) e = rw e.0 (none-accepts ts e.1)
@@ -67,7 +65,7 @@ behind r (t ∷ ts) e =
     let both = (and-eq-true_iff (leb (place r) (place t.refusal)) (none_before r ts)).0 e in
     (leb-true _ _ both.0, behind r ts both.1)
 
-pub first-least : (ts : List Test) (r : Refusal) → in_order ts ≡ true → first_of ts ≡ Refused r
+pub first-least : (ts : List Test) (r : Refusal) → in_order ts ≡ true → first_of ts ≡ Err r
     → Each (λ (t : Test). t.holds ≡ true → place r ≤ place t.refusal) ts
 unfolding first_of in_order
 first-least [] r o e = tt
@@ -77,8 +75,8 @@ first-least (t ∷ ts) r o e = go t.holds refl (λ p k. first-least ts r p k) e
     both = (and-eq-true_iff (none_before t.refusal ts) (in_order ts)).0 o
 
     go : (b : Bool) → t.holds ≡ b
-        → (in_order ts ≡ true → first_of ts ≡ Refused r → Each (λ (u : Test). u.holds ≡ true → place r ≤ place u.refusal) ts)
-        → when b t.refusal (first_of ts) ≡ Refused r
+        → (in_order ts ≡ true → first_of ts ≡ Err r → Each (λ (u : Test). u.holds ≡ true → place r ≤ place u.refusal) ts)
+        → when b t.refusal (first_of ts) ≡ Err r
         → (t.holds ≡ true → place r ≤ place t.refusal) × Each (λ (u : Test). u.holds ≡ true → place r ≤ place u.refusal) ts
     go true h rest k =
         let is = same t.refusal r k in (
@@ -88,12 +86,12 @@ first-least (t ∷ ts) r o e = go t.holds refl (λ p k. first-least ts r p k) e
         )
     go false h rest k = (λ q. absurd (true≢false (sym q ∙ h)), rest both.1 k)
 
-pub first-joined : (ts us : List Test) → first_of (ts ++ us) ≡ answer Refused (first_of ts) (first_of us)
+pub first-joined : (ts us : List Test) → first_of (ts ++ us) ≡ answer Err (first_of ts) (first_of us)
 unfolding first_of
 first-joined [] us = refl
 first-joined (t ∷ ts) us = go t.holds (first-joined ts us)
   where
-    go : (b : Bool) → first_of (ts ++ us) ≡ answer Refused (first_of ts) (first_of us)
-        → when b t.refusal (first_of (ts ++ us)) ≡ answer Refused (when b t.refusal (first_of ts)) (first_of us)
+    go : (b : Bool) → first_of (ts ++ us) ≡ answer Err (first_of ts) (first_of us)
+        → when b t.refusal (first_of (ts ++ us)) ≡ answer Err (when b t.refusal (first_of ts)) (first_of us)
     go true rest = refl
     go false rest = rest

@@ -3,11 +3,10 @@
 
 ghost use Rattle.std.specs.Prelude.{◌≡◌};
 ghost use Rattle.rules_refusals.specs.Table.{Numbered};
-ghost use Rattle.rules_refusals.specs.Verdict.{when};
 
-use rules_refusals::{Refusal, Verdict};
+use rules_refusals::Refusal;
 
-// The refusal's number.
+// The refusal's number. Not by `as`: three of the variants have fields.
 pub fn number(refusal: Refusal) -> u32
     ensures { Numbered refusal result }
 {
@@ -33,16 +32,5 @@ pub fn number(refusal: Refusal) -> u32
         Refusal::BadNak { index: _ } => 12,
         Refusal::NoRoom => 13,
         Refusal::NotHeld => 14,
-    }
-}
-
-// `refusal` if `test` holds, else `rest`, the verdict of the later tests: a call's first test is the outermost.
-pub fn when(test: bool, refusal: Refusal, rest: Verdict) -> Verdict
-    ensures { result ≡ when test refusal rest }
-{
-    if test {
-        Verdict::Refused(refusal)
-    } else {
-        rest
     }
 }

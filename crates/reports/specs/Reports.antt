@@ -9,8 +9,8 @@ use Rattle.buffer.specs.State.{packets_of}
 use Rattle.buffer.specs.State.Reports.{is_flushed, has_packets_to_send}
 use Rattle.sender.specs.SenderAndAreas.{Books, judge_areas}
 use Rattle.reports.specs.declared.BufferReports.{BufferReports}
-use Rattle.reports.specs.declared.Told.{Told}
-use Rattle.reports.specs.declared.Told.TheVariants.{Known, Refused}
+use Rattle.std.specs.Prelude.{Result, Ok, Err}
+use Rattle.rules_refusals.specs.declared.Refusal.{Refusal}
 
 abbrev pub reports_of : Books → BufferReports
 reports_of g =
@@ -23,5 +23,5 @@ reports_of g =
       duration = time_of (packets_of b.ring g.ring);
     }
 
-unfoldable pub reports : Books → Told
-reports g = answer Refused (judge_areas g) (Known (reports_of g))
+unfoldable pub reports : Books → Result BufferReports Refusal
+reports g = answer Err (judge_areas g) (Ok (reports_of g))

@@ -5,7 +5,7 @@ ghost use Rattle.std.specs.Prelude.{◌≡◌};
 ghost use Rattle.sender.specs.SenderAndAreas.{books};
 ghost use Rattle.reports.specs.Reports.{reports};
 
-use rules_refusals::{Refusal, Verdict};
+use rules_refusals::Refusal;
 use sender::{Sender, judging};
 
 // Whether nothing is buffered and the loss list is empty; whether a packet is unsent or a number is on the loss list;
@@ -19,28 +19,17 @@ pub struct BufferReports {
     pub duration: u64,
 }
 
-// The answer of `reports`.
-#[derive(Clone, Copy)]
-pub enum Told {
-    Known(BufferReports),
-    Refused(Refusal),
-}
-
 // The reports. Refuses BadStore and BadState.
-pub fn reports(s: Sender, ring: &[u64], lost: &[u32]) -> Told
+#[tactic(auto, unfolding(crate::specs::Reports::reports))]
+pub fn reports(s: Sender, ring: &[u64], lost: &[u32]) -> Result<BufferReports, Refusal>
     ensures { result ≡ reports (books s ring.now lost.now) }
 {
-    match judging::judge_areas(s, ring, lost) {
-        Verdict::Refused(r) => Told::Refused(r),
-        Verdict::Accepted => {
-            let b = s.buffer;
-            Told::Known(BufferReports {
-                is_flushed: b.is_flushed(),
-                has_packets_to_send: b.has_packets_to_send(),
-                len: b.len(),
-                len_bytes: b.len_bytes(),
-                duration: b.duration(ring),
-            })
-        }
-    }
+    judging::judge_areas(s, ring, lost)?;
+    Ok(BufferReports {
+        is_flushed: s.buffer.is_flushed(),
+        has_packets_to_send: s.buffer.has_packets_to_send(),
+        len: s.buffer.len(),
+        len_bytes: s.buffer.len_bytes(),
+        duration: s.buffer.duration(ring),
+    })
 }

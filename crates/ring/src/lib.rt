@@ -1,5 +1,7 @@
 // The buffered packets in a lent area: a ring of entries, six words each, in place of the Rust's
 // `VecDeque<SendBufferEntry>`. Document 01, "What must change shape". The buffer above has checked its books.
+// Ring and area are two parameters: C keeps the one and lends the other, here to be read, there to be written, so that one
+// struct of both would be two.
 #![tactic(auto)]
 
 ghost use Rattle.std.specs.Prelude.{◌≡◌, ◌+◌, ◌*◌, ◌≤◌, ◌<◌, length};
@@ -7,7 +9,7 @@ ghost use Rattle.ring.specs.Entry.{word_of, read_e, write_e};
 ghost use Rattle.ring.specs.Ring.{wrap_of, slot_of, pushed, removed, placed};
 ghost use Rattle.ring.specs.Ring.Laws.{Placed};
 
-// Words per entry.
+// Words per entry: C lends them as plain numbers.
 const WIDTH: usize = 6;
 
 // One buffered packet, in the words that it is kept in.
@@ -15,6 +17,7 @@ const WIDTH: usize = 6;
 pub struct Entry {
     pub time: u64,
     pub message: u64,
+    // Not a `Place`: a lent area may hold any number until `book_rules` has looked.
     pub place: u64,
     pub len: u64,
     pub count: u64,
@@ -23,7 +26,7 @@ pub struct Entry {
 
 // Where the packets lie: how many slots there are, the slot of the front packet, and how many packets there are.
 #[repr(C)]
-#[derive(Clone, Copy)]
+#[derive(Clone, Copy, Default)]
 pub struct Ring {
     pub cap: usize,
     pub slot: usize,
@@ -38,25 +41,19 @@ fn wrap(cap: usize, sum: usize) -> usize
     if sum < cap { sum } else { sum - cap }
 }
 
-// Word `j` of the entry in `slot`.
-fn word(area: &[u64], slot: usize, j: usize) -> u64
-    requires { (slot < 8192) × (slot * 6 + 6 ≤ length area.now) × (j < 6) }
-    ensures { result ≡ word_of area.now slot j }
-{
-    area[slot * WIDTH + j]
-}
-
 fn get(area: &[u64], slot: usize) -> Entry
     requires { (slot < 8192) × (slot * 6 + 6 ≤ length area.now) }
     ensures { result ≡ read_e area.now slot }
 {
+    let at = slot * WIDTH;
+    let words = &area[at..at + WIDTH];
     Entry {
-        time: word(area, slot, 0),
-        message: word(area, slot, 1),
-        place: word(area, slot, 2),
-        len: word(area, slot, 3),
-        count: word(area, slot, 4),
-        resend: word(area, slot, 5),
+        time: words[0],
+        message: words[1],
+        place: words[2],
+        len: words[3],
+        count: words[4],
+        resend: words[5],
     }
 }
 
@@ -65,12 +62,13 @@ fn put(area: &mut [u64], slot: usize, e: Entry)
     ensures { area.new ≡ write_e area.old slot e }
 {
     let at = slot * WIDTH;
-    area[at] = e.time;
-    area[at + 1] = e.message;
-    area[at + 2] = e.place;
-    area[at + 3] = e.len;
-    area[at + 4] = e.count;
-    area[at + 5] = e.resend;
+    let words = &mut area[at..at + WIDTH];
+    words[0] = e.time;
+    words[1] = e.message;
+    words[2] = e.place;
+    words[3] = e.len;
+    words[4] = e.count;
+    words[5] = e.resend;
 }
 
 impl Ring {
@@ -78,11 +76,10 @@ impl Ring {
     pub fn placed(self, words: usize) -> bool
         ensures { result ≡ placed self words }
     {
-        let cap = self.cap;
-        if 8192 < cap {
-            return false;
-        }
-        (self.slot < cap) & ((self.len <= cap) & (cap * WIDTH <= words))
+        self.cap <= 8192
+            && self.slot < self.cap
+            && self.len <= self.cap
+            && self.cap * WIDTH <= words
     }
 
     // The slot of packet `i` from the front.
@@ -119,9 +116,8 @@ impl Ring {
     {
         put(area, self.slot_of(self.len), e);
         Ring {
-            cap: self.cap,
-            slot: self.slot,
             len: self.len + 1,
+            ..self
         }
     }
 
@@ -131,9 +127,9 @@ impl Ring {
         ensures { result ≡ removed k self }
     {
         Ring {
-            cap: self.cap,
             slot: self.slot_of(k),
             len: self.len - k,
+            ..self
         }
     }
 }

@@ -1,13 +1,13 @@
--- What the code uses of the periods.
+-- Laws of the periods.
+--   times-max            the larger of two, taken count times: what the code uses
 --   exp-held, exp-free   EXP's period by one division: held if the count is too large for the longest period, else
---                        multiplied
+--                        multiplied. No code uses these two now: it multiplies, held at 2^64 − 1, and takes the least
 use Rattle.std.specs.Prelude.{◌≡◌, ℕ, ◌*◌, ◌/◌, ◌≤◌, ◌<◌, min, max}
 use Rattle.std.proofs.Common.{div-lt_iff_lt-mul, le-div_iff_mul-le, mul-le-mul_left, arith}
 use Rattle.std.proofs.Math.Nat.{max-eq_left, max-eq_right}
 use Rattle.std.proofs.Math.Decide.{dec_le}
 
--- the larger of two, taken count times
-times-max : (count a b : ℕ) → max (count * a) (count * b) ≡ count * max a b
+pub times-max : (count a b : ℕ) → max (count * a) (count * b) ≡ count * max a b
 times-max count a b = by (dec_le a b)
   where
     by : Dec (a ≤ b) → max (count * a) (count * b) ≡ count * max a b

@@ -7,8 +7,7 @@
 --   expect full e            the expected full number after an accepted ACK
 --   acknowledge c d full s   d packets acknowledged
 --   recovered, received      the two counts
-use Rattle.std.proofs.Math.Option.{Option, none, some}
-use Rattle.std.specs.Prelude.{ℕ, ◌+◌, ◌-◌, length, take, drop}
+use Rattle.std.specs.Prelude.{ℕ, ◌+◌, ◌-◌, length, take, drop, Option, Some, None}
 use Rattle.rules_numbers.specs.declared.Rtt.{Rtt}
 use Rattle.rules.specs.Numbers.{wire, distance}
 use Rattle.rules.specs.Settings.{Settings}
@@ -18,8 +17,8 @@ abbrev pub ack_of : Sender → ℕ → ℕ
 ack_of s n = distance (wire s.front) n
 
 unfoldable pub given : {A : Type 0} → Option A → A → A
-given none a = a
-given (some b) a = b
+given None a = a
+given (Some b) a = b
 
 unfoldable pub take_rtt : Option Rtt → Sender → Sender
 take_rtt rtt s = record {
@@ -37,8 +36,8 @@ take_rtt rtt s = record {
 }
 
 unfoldable pub expect : Option ℕ → ℕ → ℕ
-expect none e = e
-expect (some n) e = n + 1
+expect None e = e
+expect (Some n) e = n + 1
 
 unfoldable pub acknowledge : Settings → ℕ → Option ℕ → Sender → Sender
 acknowledge c d full s = record {

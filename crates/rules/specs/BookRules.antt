@@ -7,8 +7,7 @@
 -- Three rules hold of any `Sender`: packet numbers are consecutive; one past the back is the number that the next
 -- packet gets; and with none buffered next unsent is that number, as it lies between the front and one past the back.
 -- An unsent packet has transmit count 0, and resend time 0 means none. Timers are apart: rules_timers.
-use Rattle.std.specs.Prelude.{Bool, true, ◌&&◌, List, [], ◌∷◌, ℕ, suc, ◌^◌, ltb, leb, eqb, length, take, drop}
-use Rattle.std.proofs.Math.Option.{Option, none, some}
+use Rattle.std.specs.Prelude.{Bool, true, ◌&&◌, List, [], ◌∷◌, ℕ, suc, ◌^◌, ltb, leb, eqb, length, take, drop, Option, Some, None}
 use Rattle.rules_numbers.specs.Modular.{msgs}
 use Rattle.rules_numbers.specs.Limits.{time_limit, transmit_most, bytes_limit}
 use Rattle.rules_numbers.specs.Rtt as Rtt
@@ -52,8 +51,8 @@ unsent_kept c p = every (
     )
 
 unfoldable pub held_is_kept : Settings → Option Held → Bool
-held_is_kept c none = true
-held_is_kept c (some h) = ltb h.slot (capacity c) && leb h.len c.size
+held_is_kept c None = true
+held_is_kept c (Some h) = ltb h.slot (capacity c) && leb h.len c.size
 
 unfoldable pub kept : Settings → Sender → Bool
 kept c s = every (

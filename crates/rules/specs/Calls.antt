@@ -10,11 +10,8 @@
 --                            the verdict)
 --   records a, units k a     the records of an answer; the units that an accepted run got (records_of, units_by)
 --   all_records, all_units   those of a list of calls
-use Rattle.std.specs.Prelude.{Bool, cond, List, [], ◌++◌, ◌∷◌, ℕ, ◌+◌, eqb, length}
-use Rattle.std.proofs.Math.Option.{Option}
+use Rattle.std.specs.Prelude.{Bool, cond, List, [], ◌++◌, ◌∷◌, ℕ, ◌+◌, eqb, length, Option, Ok, Err}
 use Rattle.rules_refusals.specs.declared.Refusal.{Refusal}
-use Rattle.rules_refusals.specs.declared.Verdict.{Verdict}
-use Rattle.rules_refusals.specs.declared.Verdict.TheVariants.{Accepted, Refused}
 use Rattle.rules_refusals.specs.Table.{number_of}
 use Rattle.rules_packets.specs.Split.{count}
 use Rattle.rules_numbers.specs.declared.Rtt.{Rtt}
@@ -29,6 +26,7 @@ use Rattle.rules.specs.Run.{run}
 use Rattle.rules.specs.Sender.{Sender, wire_sizes}
 use Rattle.rules.specs.Settings.{Settings}
 use Rattle.rules_pacing.specs.Pacing as Pacing
+use Rattle.rules_refusals.specs.Verdict.{Verdict, accepted}
 
 pub data Call : Type 0 where
   message : (time now : ℕ) → (payload : List ℕ) → Call
@@ -92,8 +90,8 @@ module _ (c : Settings) where
   said_by (payload number) s = Found (payload_of c s number)
 
   unfoldable pub answer_by : Verdict → Call → Sender → Answer
-  answer_by Accepted k s = record { verdict = Accepted; said = said_by k s; after = after k s }
-  answer_by (Refused r) k s = record { verdict = Refused r; said = Nothing; after = left k s r }
+  answer_by (Ok _) k s = record { verdict = accepted; said = said_by k s; after = after k s }
+  answer_by (Err r) k s = record { verdict = Err r; said = Nothing; after = left k s r }
 
   unfoldable pub answer : Call → Sender → Answer
   answer k s = answer_by (verdict_of k s) k s
@@ -107,12 +105,12 @@ module _ (c : Settings) where
   answers (k ∷ ks) s = answer k s ∷ answers ks (answer k s).after
 
   unfoldable pub store_by : Verdict → Call → Sender → List ℕ → List ℕ
-  store_by Accepted (message time now bytes) s store = stored c bytes s store
-  store_by Accepted (ack number full rtt) s store = store
-  store_by Accepted (nak words room) s store = store
-  store_by Accepted (runs now p draining room) s store = store
-  store_by Accepted (payload number) s store = store
-  store_by (Refused r) k s store = store
+  store_by (Ok _) (message time now bytes) s store = stored c bytes s store
+  store_by (Ok _) (ack number full rtt) s store = store
+  store_by (Ok _) (nak words room) s store = store
+  store_by (Ok _) (runs now p draining room) s store = store
+  store_by (Ok _) (payload number) s store = store
+  store_by (Err r) k s store = store
 
   unfoldable pub store_after : Call → Sender → List ℕ → List ℕ
   store_after k s store = store_by (verdict_of k s) k s store
@@ -130,12 +128,12 @@ records_of (Ran rs budget) = rs
 records_of (Found lies) = []
 
 unfoldable pub units_by : Verdict → Call → ℕ
-units_by Accepted (message time now bytes) = 0
-units_by Accepted (ack number full rtt) = 0
-units_by Accepted (nak words room) = 0
-units_by Accepted (runs now p draining room) = p
-units_by Accepted (payload number) = 0
-units_by (Refused r) k = 0
+units_by (Ok _) (message time now bytes) = 0
+units_by (Ok _) (ack number full rtt) = 0
+units_by (Ok _) (nak words room) = 0
+units_by (Ok _) (runs now p draining room) = p
+units_by (Ok _) (payload number) = 0
+units_by (Err r) k = 0
 
 abbrev pub records : Answer → List Action
 records a = records_of a.said

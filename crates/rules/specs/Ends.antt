@@ -7,14 +7,10 @@
 --   damaged           books that each break one rule
 --   lowest            settings out of range; 3 comes before whatever else is bad
 --   wraps             the message counter
-use Rattle.std.specs.Prelude.{◌≡◌, refl, Bool, false, true, List, [], ◌∷◌, map, ◌+◌, ◌-◌, ◌^◌, ℕ, length, replicate}
-use Rattle.std.proofs.Math.Option.{Option, none, some}
+use Rattle.std.specs.Prelude.{◌≡◌, refl, Bool, false, true, List, [], ◌∷◌, map, ◌+◌, ◌-◌, ◌^◌, ℕ, length, replicate, Option, Some, None, Err}
 use Rattle.rules_refusals.specs.declared.Refusal.TheVariants.{BadSetting, BadState, CountFull, TooLong}
-use Rattle.rules_refusals.specs.declared.Verdict.{Verdict}
-use Rattle.rules_refusals.specs.declared.Verdict.TheVariants.{Accepted, Refused}
 use Rattle.rules_packets.specs.declared.Place.TheVariants.{Only}
 use Rattle.rules_numbers.specs.declared.Rtt.{Rtt}
-use Rattle.rules_pacing.specs.declared.Next.TheVariants.{At}
 use Rattle.rules_pacing.specs.declared.LiveBandwidthMode.{LiveBandwidthMode}
 use Rattle.rules_pacing.specs.declared.LiveBandwidthMode.TheVariants.{Estimated, Input, Max, Unlimited}
 use Rattle.rules_pacing.specs.declared.SenderCongestionControl.{SenderCongestionControl}
@@ -25,6 +21,7 @@ use Rattle.rules.specs.Computing.{computes}
 use Rattle.rules.specs.Refusals.{message_verdict, nak_verdict, new_verdict}
 use Rattle.rules.specs.Sender.{Held, Packet, Sender, fresh, put}
 use Rattle.rules.specs.Settings.{Settings, capacity, store_size}
+use Rattle.rules_refusals.specs.Verdict.{Verdict, accepted}
 
 abbrev setting : ℕ → ℕ → ℕ → ℕ → ℕ → ℕ → ℕ → Settings
 setting first size buffer flow latency overhead socket =
@@ -35,7 +32,7 @@ asked cs = map (λ (c : Settings). new_verdict c Unlimited) cs
 
 -- each at its least and at its most; then each past its end
 pub settings :
-    (asked (setting 0 1 0 0 0 0 0 ∷ setting (2 ^ 31 - 1) 1_456 8_192 65_535 65_535_000 128 (2 ^ 32 - 1) ∷ []) ≡ replicate 2 Accepted)
+    (asked (setting 0 1 0 0 0 0 0 ∷ setting (2 ^ 31 - 1) 1_456 8_192 65_535 65_535_000 128 (2 ^ 32 - 1) ∷ []) ≡ replicate 2 accepted)
     × (asked
     (setting (2 ^ 31) 1 0 0 0 0 0
     ∷ setting 0 0 0 0 0 0 0
@@ -45,7 +42,7 @@ pub settings :
     ∷ setting 0 1 0 0 65_535_001 0 0
     ∷ setting 0 1 0 0 0 129 0
     ∷ [])
-    ≡ replicate 7 (Refused BadSetting))
+    ≡ replicate 7 (Err BadSetting))
 unfolding computes
 settings = (refl, refl)
 
@@ -56,9 +53,9 @@ abbrev paced : List LiveBandwidthMode → List Verdict
 paced ms = map (new_verdict small) ms
 
 pub modes :
-    (paced (Input (2 ^ 40) 10_000 ∷ Estimated (2 ^ 40) 10_000 ∷ Max (2 ^ 40) ∷ Unlimited ∷ []) ≡ replicate 4 Accepted)
+    (paced (Input (2 ^ 40) 10_000 ∷ Estimated (2 ^ 40) 10_000 ∷ Max (2 ^ 40) ∷ Unlimited ∷ []) ≡ replicate 4 accepted)
     × (paced (Input (2 ^ 40 + 1) 0 ∷ Input 0 10_001 ∷ Estimated (2 ^ 40 + 1) 0 ∷ Estimated 0 10_001 ∷ Max (2 ^ 40 + 1) ∷ [])
-    ≡ replicate 5 (Refused BadSetting))
+    ≡ replicate 5 (Err BadSetting))
 unfolding computes
 modes = (refl, refl)
 
@@ -73,9 +70,9 @@ counted n = put (fresh small Unlimited) [] 5 5 [] n
 
 -- four bytes are 32 on the wire, five are 61
 pub full :
-    (map (λ (n : ℕ). message_verdict small 0 0 n (counted 0)) (1_048_576 ∷ 1_048_577 ∷ []) ≡ Accepted ∷ Refused TooLong ∷ [])
-    × (map (λ (n : ℕ). message_verdict small 0 0 4 (counted n)) ((2 ^ 62 - 33) ∷ (2 ^ 62 - 32) ∷ []) ≡ Accepted ∷ Refused CountFull ∷ [])
-    × (map (λ (n : ℕ). message_verdict small 0 0 5 (counted n)) ((2 ^ 62 - 62) ∷ (2 ^ 62 - 61) ∷ []) ≡ Accepted ∷ Refused CountFull ∷ [])
+    (map (λ (n : ℕ). message_verdict small 0 0 n (counted 0)) (1_048_576 ∷ 1_048_577 ∷ []) ≡ accepted ∷ Err TooLong ∷ [])
+    × (map (λ (n : ℕ). message_verdict small 0 0 4 (counted n)) ((2 ^ 62 - 33) ∷ (2 ^ 62 - 32) ∷ []) ≡ accepted ∷ Err CountFull ∷ [])
+    × (map (λ (n : ℕ). message_verdict small 0 0 5 (counted n)) ((2 ^ 62 - 62) ∷ (2 ^ 62 - 61) ∷ []) ≡ accepted ∷ Err CountFull ∷ [])
 unfolding computes
 full = (refl, refl, refl)
 
@@ -115,18 +112,18 @@ abbrev rtt_of : ℕ → ℕ → Rtt
 rtt_of mean variance = record { mean = mean; variance = variance }
 
 abbrev held : ℕ → ℕ → Option Held
-held slot len = some (record { number = 4; slot = slot; len = len })
+held slot len = Some (record { number = 4; slot = slot; len = len })
 
 abbrev calm : SenderCongestionControl
 calm = Pacing.fresh Unlimited
 
 abbrev next : ℕ → SenderCongestionControl
-next n = Pacing.control (At n) Pacing.none Pacing.none Unlimited
+next n = Pacing.control (Some n) Pacing.none Pacing.none Unlimited
 
 abbrev judged : List Sender → List Bool
 judged ss = map (kept small) ss
 
-pub whole : judged (books (sent ∷ unsent ∷ []) 6 (5 ∷ []) 64 ∷ books (sent ∷ sent ∷ []) 7 (5 ∷ 6 ∷ []) 64 ∷ rest 1 (rtt_of 0 0) 0 none calm ∷ [])
+pub whole : judged (books (sent ∷ unsent ∷ []) 6 (5 ∷ []) 64 ∷ books (sent ∷ sent ∷ []) 7 (5 ∷ 6 ∷ []) 64 ∷ rest 1 (rtt_of 0 0) 0 None calm ∷ [])
     ≡ replicate 3 true
 unfolding computes
 whole = refl
@@ -164,25 +161,25 @@ pub damaged : judged
     ∷ books (packet_of 0 0 4 0 9 ∷ []) 5 [] 64
     ∷ books (sent ∷ unsent ∷ []) 6 [] (2 ^ 62)
     ∷ books (sent ∷ unsent ∷ []) 6 [] 63
-    ∷ rest 0 (rtt_of 0 0) 0 none calm
-    ∷ rest (2 ^ 32 + 1) (rtt_of 0 0) 0 none calm
-    ∷ rest 1 (rtt_of 100_000_001 0) 0 none calm
-    ∷ rest 1 (rtt_of 0 100_000_001) 0 none calm
-    ∷ rest 1 (rtt_of 0 0) (2 ^ 26) none calm
+    ∷ rest 0 (rtt_of 0 0) 0 None calm
+    ∷ rest (2 ^ 32 + 1) (rtt_of 0 0) 0 None calm
+    ∷ rest 1 (rtt_of 100_000_001 0) 0 None calm
+    ∷ rest 1 (rtt_of 0 100_000_001) 0 None calm
+    ∷ rest 1 (rtt_of 0 0) (2 ^ 26) None calm
     ∷ rest 1 (rtt_of 0 0) 0 (held 2 4) calm
     ∷ rest 1 (rtt_of 0 0) 0 (held 1 5) calm
-    ∷ rest 1 (rtt_of 0 0) 0 none (next (2 ^ 49))
+    ∷ rest 1 (rtt_of 0 0) 0 None (next (2 ^ 49))
     ∷ [])
     ≡ replicate 29 false
 unfolding computes
 damaged = refl
 
 pub lowest : (kept (setting 0 0 0 0 0 0 0) (fresh small Unlimited) ≡ false)
-    × (nak_verdict small ((2 ^ 31) ∷ []) 0 (books (sent ∷ []) 7 [] 64) ≡ Refused BadState)
+    × (nak_verdict small ((2 ^ 31) ∷ []) 0 (books (sent ∷ []) 7 [] 64) ≡ Err BadState)
 unfolding computes
 lowest = (refl, refl)
 
 -- "Each counts up and wraps to 0": the message counter
-pub wraps : (calls small (message 0 0 [] ∷ []) (rest 1 (rtt_of 0 0) (2 ^ 26 - 1) none calm)).messages ≡ 0
+pub wraps : (calls small (message 0 0 [] ∷ []) (rest 1 (rtt_of 0 0) (2 ^ 26 - 1) None calm)).messages ≡ 0
 unfolding computes
 wraps = refl

@@ -18,11 +18,8 @@ pub mod Payloads
 pub mod Records
 pub mod Refusals
 pub mod Turns
-use Rattle.std.specs.Prelude.{◌≡◌, refl, false, true, List, [], ◌∷◌, map, ◌*◌, ◌+◌, ◌-◌, ◌^◌, ℕ, length, replicate}
-use Rattle.std.proofs.Math.Option.{none}
+use Rattle.std.specs.Prelude.{◌≡◌, refl, false, true, List, [], ◌∷◌, map, ◌*◌, ◌+◌, ◌-◌, ◌^◌, ℕ, length, replicate, Err}
 use Rattle.rules_refusals.specs.declared.Refusal.TheVariants.{BadNumber, BadTime, NotHeld}
-use Rattle.rules_refusals.specs.declared.Verdict.{Verdict}
-use Rattle.rules_refusals.specs.declared.Verdict.TheVariants.{Accepted, Refused}
 use Rattle.rules_packets.specs.declared.Place.TheVariants.{Only}
 use Rattle.rules_pacing.specs.declared.LiveBandwidthMode.TheVariants.{Unlimited}
 use Rattle.rules.specs.Calls.{Answer, Call, Ran, Said, all_records, answer, answers, calls, message, nak, payload, records, runs}
@@ -31,6 +28,7 @@ use Rattle.rules.specs.Records.{Action, code, header_of}
 use Rattle.rules.specs.Run.{first}
 use Rattle.rules.specs.Sender.{Packet, Sender, fresh, put}
 use Rattle.rules.specs.Settings.{Settings}
+use Rattle.rules_refusals.specs.Verdict.{Verdict, accepted}
 
 abbrev pub small : ℕ → ℕ → ℕ → Settings
 small first buffer flow = record { first = first; size = 4; buffer = buffer; flow = flow; latency = 0; overhead = 28; socket = 7 }
@@ -130,7 +128,7 @@ pub flush :
     × (verdicts (small 5 2 9)
     (message 8 0 (bytes 3) ∷ runs 8 2 true 9 ∷ payload 5 ∷ message
     (2 ^ 48) 0 [] ∷ payload 5 ∷ payload 6 ∷ message 0 0 [] ∷ payload 5 ∷ payload (2 ^ 31) ∷ [])
-    ≡ Accepted ∷ Accepted ∷ Accepted ∷ Refused BadTime ∷ Accepted ∷ Refused NotHeld ∷ Accepted ∷ Refused NotHeld ∷ Refused BadNumber ∷ [])
+    ≡ accepted ∷ accepted ∷ accepted ∷ Err BadTime ∷ accepted ∷ Err NotHeld ∷ accepted ∷ Err NotHeld ∷ Err BadNumber ∷ [])
     × ((calls (small 5 2 9) (message 8 0 (bytes 3) ∷ runs 8 2 true 9 ∷ []) (begun (small 5 2 9))).bytes ≡ 0)
 unfolding computes
 flush = (refl, refl, refl)

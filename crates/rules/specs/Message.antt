@@ -10,16 +10,15 @@
 --   push                    the sender after a message
 --   period_of               "any new period"
 --   written, stored         the store after a message: "Only pushed payload bytes change."
-use Rattle.std.specs.Prelude.{cond, List, [], ◌∷◌, ◌++◌, ℕ, zero, suc, ◌+◌, ◌-◌, ◌%◌, ◌^◌, leb, length, take, drop}
-use Rattle.std.proofs.Math.Option.{Option, none, some}
+use Rattle.std.specs.Prelude.{cond, List, [], ◌∷◌, ◌++◌, ℕ, zero, suc, ◌+◌, ◌-◌, ◌%◌, ◌^◌, leb, length, take, drop, Option, Some, None, Result, Ok, Err}
 use Rattle.std.proofs.Math.Seq.{paste}
 use Rattle.rules_numbers.specs.Modular.{msgs}
 use Rattle.rules_packets.specs.Split.{count, piece_of, start_of, length_of}
-use Rattle.rules_pacing.specs.declared.Paced.{Paced}
-use Rattle.rules_pacing.specs.declared.Paced.TheVariants.{Silent, Period, Refused}
 use Rattle.rules_pacing.specs.Pacing.{after}
 use Rattle.rules.specs.Settings.{Settings, capacity, place_of}
 use Rattle.rules.specs.Sender.{Packet, Sender, remove, wire_sizes}
+use Rattle.rules_refusals.specs.declared.Refusal.{Refusal}
+use Rattle.rules_pacing.specs.declared.SenderCongestionControl.{SenderCongestionControl}
 
 unfoldable pub packet_of : Settings → ℕ → ℕ → ℕ → ℕ → Packet
 packet_of c time message len k =
@@ -75,7 +74,7 @@ begin c now len s = record {
   rtt = s.rtt;
   messages = (s.messages + 1) % msgs;
   expected = s.expected;
-  held = none;
+  held = None;
   pacing = after s.pacing now (count c.size len) len;
   pushed = s.pushed;
 }
@@ -84,10 +83,10 @@ begin c now len s = record {
 unfoldable pub push : Settings → ℕ → ℕ → ℕ → Sender → Sender
 push c time now len s = push_all c (packets_of c time s.messages len) (begin c now len s)
 
-abbrev pub period_of : Paced → Option ℕ
-period_of (Silent pacing) = none
-period_of (Period period pacing) = some period
-period_of (Refused r) = none
+abbrev pub period_of : Result (Option ℕ × SenderCongestionControl) Refusal → Option ℕ
+period_of (Ok (None, pacing)) = None
+period_of (Ok (Some period, pacing)) = Some period
+period_of (Err r) = None
 
 -- n packets from packet i on, the first being the k-th ever pushed: each payload is written to its slot
 unfoldable pub written : Settings → List ℕ → ℕ → ℕ → ℕ → List ℕ → List ℕ

@@ -5,8 +5,7 @@
 --   buffered_packets, buffered_bytes, buffered_time   the other three reports (time_of: the time of a list of packets)
 --   Lies, payload_of c s n   where the payload of the 31-bit number n lies in the store; none where it isn't held. Held
 --                           are the buffered packets, and the flushed one (held_of) "until the next accepted message"
-use Rattle.std.specs.Prelude.{Bool, true, false, cond, not, ◌&&◌, ◌||◌, List, [], ◌∷◌, ℕ, ◌+◌, ◌-◌, ◌*◌, ltb, eqb, length, get_or}
-use Rattle.std.proofs.Math.Option.{Option, none, some}
+use Rattle.std.specs.Prelude.{Bool, true, false, cond, not, ◌&&◌, ◌||◌, List, [], ◌∷◌, ℕ, ◌+◌, ◌-◌, ◌*◌, ltb, eqb, length, get_or, Option, Some, None}
 use Rattle.rules.specs.Numbers.{wire, distance}
 use Rattle.rules.specs.Settings.{Settings, place_of}
 use Rattle.rules.specs.Sender.{Packet, Held, Sender, nothing, end, packet, push_of}
@@ -40,12 +39,12 @@ pub record Lies : Type 0 where
   pub len : ℕ
 
 unfoldable pub held_of : Settings → Option Held → ℕ → Option Lies
-held_of c none n = none
-held_of c (some h) n = cond (eqb (wire h.number) n) (some (record { place = h.slot * c.size; len = h.len })) none
+held_of c None n = None
+held_of c (Some h) n = cond (eqb (wire h.number) n) (Some (record { place = h.slot * c.size; len = h.len })) None
 
 unfoldable pub payload_of : Settings → Sender → ℕ → Option Lies
 payload_of c s n =
     let d = distance (wire s.front) n in
     cond (ltb d (length s.packets))
-    (some (record { place = place_of c (push_of s (s.front + d)); len = (packet s (s.front + d)).len }))
+    (Some (record { place = place_of c (push_of s (s.front + d)); len = (packet s (s.front + d)).len }))
     (held_of c s.held n)

@@ -11,8 +11,7 @@
 --   late_from, dropped                      how many packets go with the late ones before them; the drop
 --   send, send_next, extra, flushed, obey   what rules 2 to 7 do
 --   others, turn_by, turn, loop, run        one turn, the turns while budget remains, the run
-use Rattle.std.specs.Prelude.{Bool, true, false, ◌&&◌, cond, List, [], ◌∷◌, ◌++◌, ℕ, zero, suc, ◌+◌, ◌-◌, ◌*◌, ◌%◌, ◌^◌, min, ltb, eqb, length, set, take}
-use Rattle.std.proofs.Math.Option.{Option, none, some}
+use Rattle.std.specs.Prelude.{Bool, true, false, ◌&&◌, cond, List, [], ◌∷◌, ◌++◌, ℕ, zero, suc, ◌+◌, ◌-◌, ◌*◌, ◌%◌, ◌^◌, min, ltb, eqb, length, set, take, Option, Some, None}
 use Rattle.rules_numbers.specs.Limits.{transmit_most}
 use Rattle.rules.specs.Numbers.{wire}
 use Rattle.rules.specs.Settings.{Settings, capacity, late_window}
@@ -42,11 +41,11 @@ sent now s n = set s.packets (n - s.front) (stamped now s (packet s n))
 
 -- "the earliest resend time strictly before now; ties to the number nearer the front"; n is the first packet's number
 unfoldable pub or_here : ℕ → Option ℕ → Option ℕ
-or_here n none = some n
-or_here n (some m) = some m
+or_here n None = Some n
+or_here n (Some m) = Some m
 
 unfoldable pub earliest : ℕ → ℕ → List Packet → Option ℕ
-earliest now n [] = none
+earliest now n [] = None
 earliest now n (p ∷ ps) =
     let here = or_here n (earliest p.resend (suc n) ps) in
     let later = earliest now (suc n) ps in
@@ -60,11 +59,11 @@ pub data Rule : Type 0 where
 -- given the loss list, the packet due, and whether the flow window is exceeded, any is unsent, and the flush applies
 unfoldable pub first : List ℕ → Option ℕ → Bool → Bool → Bool → Rule
 first (x ∷ xs) d over more last = loss x xs
-first [] (some n) over more last = due n
-first [] none true more last = window
-first [] none false true last = unsent
-first [] none false false true = flush
-first [] none false false false = input
+first [] (Some n) over more last = due n
+first [] None true more last = window
+first [] None false true last = unsent
+first [] None false false true = flush
+first [] None false false false = input
 
 -- what one turn does: its records, the sender after it, and whether the run ends
 pub record Turn : Type 0 where
@@ -150,7 +149,7 @@ module _ (c : Settings) (now : ℕ) where
           rtt = s.rtt;
           messages = s.messages;
           expected = s.expected;
-          held = some (record { number = s.front; slot = push_of s s.front % capacity c; len = (packet s s.front).len });
+          held = Some (record { number = s.front; slot = push_of s s.front % capacity c; len = (packet s s.front).len });
           pacing = s.pacing;
           pushed = s.pushed;
         }

@@ -11,8 +11,7 @@
 --   insert n          the loss list with n entered, once
 --   put, remove       changes that several rules share
 --   wire_sizes c ps   "wire bytes .. (payload plus overhead)", summed over ps
-use Rattle.std.specs.Prelude.{List, [], ◌∷◌, cond, ℕ, ◌+◌, ◌-◌, max, suc, ltb, eqb, length, get_or, drop}
-use Rattle.std.proofs.Math.Option.{Option, none}
+use Rattle.std.specs.Prelude.{List, [], ◌∷◌, cond, ℕ, ◌+◌, ◌-◌, max, suc, ltb, eqb, length, get_or, drop, Option, None}
 use Rattle.rules_packets.specs.declared.Place.{Place}
 use Rattle.rules_packets.specs.declared.Place.TheVariants.{Only}
 use Rattle.rules_numbers.specs.declared.Rtt.{Rtt}
@@ -68,7 +67,7 @@ fresh c mode = record {
   rtt = start;
   messages = 0;
   expected = 1;
-  held = none;
+  held = None;
   pacing = Pacing.fresh mode;
   pushed = 0;
 }

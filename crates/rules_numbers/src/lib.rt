@@ -13,16 +13,16 @@ pub const BYTES_LIMIT: u64 = 1 << 62;
 pub const TRANSMIT_MOST: u64 = 65_535;
 
 // The number of a packet: 31 bits.
-#[derive(Clone, Copy)]
+#[derive(Clone, Copy, Debug, PartialEq, Eq)]
 pub struct SeqNumber(pub u32);
 
 // The number of a message: 26 bits.
-#[derive(Clone, Copy)]
+#[derive(Clone, Copy, Debug, PartialEq, Eq)]
 pub struct MsgNumber(pub u32);
 
 // Mean and variance of the round-trip time, in microseconds.
 #[repr(C)]
-#[derive(Clone, Copy)]
+#[derive(Clone, Copy, Default)]
 pub struct Rtt {
     pub mean: u32,
     pub variance: u32,

@@ -7,14 +7,11 @@
 --   count-ends              the most that may be counted, before next and at it
 --   lowest                  the order of the refusals
 --   books                   the book rules at their ends
-use Rattle.std.specs.Prelude.{◌≡◌, refl, true, false, ℕ, ◌+◌, ◌-◌, ◌^◌}
+use Rattle.std.specs.Prelude.{◌≡◌, refl, true, false, ℕ, ◌+◌, ◌-◌, ◌^◌, Some, None, Ok, Err}
 use Rattle.rules_refusals.specs.declared.Refusal.TheVariants.{BadSetting, BadState, BadTime, CountFull}
 use Rattle.rules_pacing.specs.declared.LiveBandwidthMode.TheVariants.{Input, Estimated, Max, Unlimited}
 use Rattle.rules_pacing.specs.declared.RateEstimation.{RateEstimation}
-use Rattle.rules_pacing.specs.declared.Next.TheVariants.{Unset, At}
 use Rattle.rules_pacing.specs.declared.SenderCongestionControl.{SenderCongestionControl}
-use Rattle.rules_pacing.specs.declared.Made.TheVariants as made
-use Rattle.rules_pacing.specs.declared.Paced.TheVariants.{Silent, Period, Refused}
 use Rattle.rules_pacing.specs.Rate.{new_mean, estimate}
 use Rattle.rules_pacing.specs.Period.{allowed, period, mode_in_range}
 use Rattle.rules_pacing.specs.Kept.{kept, control, fresh, new}
@@ -24,12 +21,12 @@ abbrev est : ℕ → ℕ → ℕ → RateEstimation
 est count mean variance = record { count = count; mean = mean; variance = variance }
 
 abbrev at : ℕ → RateEstimation → RateEstimation → SenderCongestionControl
-at next packets bytes = control (At next) packets bytes (Max 1_000_000)
+at next packets bytes = control (Some next) packets bytes (Max 1_000_000)
 
 -- "1 BadSetting, a setting is outside its range"; "First input sets next": before it there is none
 pub starts :
-    (new (Max (2 ^ 40)) ≡ made.Control (control Unset (est 0 0 0) (est 0 0 0) (Max (2 ^ 40))))
-    × (new (Max (2 ^ 40 + 1)) ≡ made.Refused BadSetting)
+    (new (Max (2 ^ 40)) ≡ Ok (control None (est 0 0 0) (est 0 0 0) (Max (2 ^ 40))))
+    × (new (Max (2 ^ 40 + 1)) ≡ Err BadSetting)
 unfolding new
 starts = (refl, refl)
 
@@ -37,10 +34,10 @@ starts = (refl, refl)
 -- counts from there on. Over 200,000 µs it gives 5 and 5,000, below the means: (350 + 5) / 8 and (350,000 + 5,000) / 8;
 -- 39 / 4 and 39,375 / 4; 44,375 / 44.
 pub inputs :
-    (on_input (fresh (Max 1_000_000)) 1_000 2 2_000 ≡ Silent (at 101_000 (est 2 0 0) (est 2_000 0 0)))
-    × (on_input (at 101_000 (est 2 0 0) (est 2_000 0 0)) 100_999 3 3_000 ≡ Silent (at 101_000 (est 5 0 0) (est 5_000 0 0)))
-    × (on_input (at 101_000 (est 5 0 0) (est 5_000 0 0)) 101_000 1 1_000 ≡ Period 1_000 (at 201_000 (est 1 50 0) (est 1_000 50_000 0)))
-    × (on_input (at 201_000 (est 1 50 0) (est 1_000 50_000 0)) 301_000 0 0 ≡ Period 1_008 (at 401_000 (est 0 44 9) (est 0 44_375 9_843)))
+    (on_input (fresh (Max 1_000_000)) 1_000 2 2_000 ≡ Ok (None, at 101_000 (est 2 0 0) (est 2_000 0 0)))
+    × (on_input (at 101_000 (est 2 0 0) (est 2_000 0 0)) 100_999 3 3_000 ≡ Ok (None, at 101_000 (est 5 0 0) (est 5_000 0 0)))
+    × (on_input (at 101_000 (est 5 0 0) (est 5_000 0 0)) 101_000 1 1_000 ≡ Ok (Some 1_000, at 201_000 (est 1 50 0) (est 1_000 50_000 0)))
+    × (on_input (at 201_000 (est 1 50 0) (est 1_000 50_000 0)) 301_000 0 0 ≡ Ok (Some 1_008, at 401_000 (est 0 44 9) (est 0 44_375 9_843)))
 unfolding on_input kept count_full input after added moved moved_at estimated estimate new_mean snd_period period
 inputs = (refl, refl, refl, refl)
 
@@ -85,15 +82,15 @@ count-ends = (refl, refl, refl, refl)
 
 -- "The lowest that applies is given"
 pub lowest :
-    (on_input (at (2 ^ 49) (est 0 0 0) (est 0 0 0)) (2 ^ 48) (2 ^ 39) 0 ≡ Refused BadState)
-    × (on_input (at (2 ^ 49 - 1) (est 0 0 0) (est 0 0 0)) (2 ^ 48) (2 ^ 39) 0 ≡ Refused BadTime)
-    × (on_input (at 9 (est 1 0 0) (est 0 0 0)) 8 (2 ^ 38) 0 ≡ Refused CountFull)
-    × (on_input (fresh (Max 5)) (2 ^ 48 - 1) 0 0 ≡ Silent (control (At (2 ^ 48 + 99_999)) (est 0 0 0) (est 0 0 0) (Max 5)))
+    (on_input (at (2 ^ 49) (est 0 0 0) (est 0 0 0)) (2 ^ 48) (2 ^ 39) 0 ≡ Err BadState)
+    × (on_input (at (2 ^ 49 - 1) (est 0 0 0) (est 0 0 0)) (2 ^ 48) (2 ^ 39) 0 ≡ Err BadTime)
+    × (on_input (at 9 (est 1 0 0) (est 0 0 0)) 8 (2 ^ 38) 0 ≡ Err CountFull)
+    × (on_input (fresh (Max 5)) (2 ^ 48 - 1) 0 0 ≡ Ok (None, control (Some (2 ^ 48 + 99_999)) (est 0 0 0) (est 0 0 0) (Max 5)))
 unfolding on_input kept count_full input after added moved moved_at
 lowest = (refl, refl, refl, refl)
 
 -- measured is the bytes' mean: 1,000,000 × floor(30,000 / 10) / (max(1,000, 30,000) × 150 / 100)
-pub measured : snd_period (control (At 9) (est 0 10 0) (est 0 30_000 0) (Estimated 1_000 50)) ≡ 66_666
+pub measured : snd_period (control (Some 9) (est 0 10 0) (est 0 30_000 0) (Estimated 1_000 50)) ≡ 66_666
 unfolding snd_period period
 measured = refl
 
@@ -102,6 +99,6 @@ pub books :
     (kept (at 9 (est (2 ^ 38) (2 ^ 42) (2 ^ 42)) (est (2 ^ 38) (2 ^ 42) (2 ^ 42))) ≡ true)
     × (kept (at 9 (est (2 ^ 38 + 1) 0 0) (est 0 0 0)) ≡ false)
     × (kept (at 9 (est 0 0 0) (est 0 (2 ^ 42 + 1) 0)) ≡ false)
-    × (kept (control Unset (est 0 0 0) (est 0 0 0) (Max (2 ^ 40 + 1))) ≡ false)
+    × (kept (control None (est 0 0 0) (est 0 0 0) (Max (2 ^ 40 + 1))) ≡ false)
 unfolding kept
 books = (refl, refl, refl, refl)

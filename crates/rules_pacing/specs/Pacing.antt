@@ -9,24 +9,21 @@
 --   snd_period s                     the period given by the kept means
 --   input s now packets bytes        the answer to an accepted input
 --   on_input s now packets bytes     the answer to any input
-use Rattle.std.specs.Prelude.{Bool, false, cond, not, ◌||◌, ℕ, ◌+◌, leb}
+use Rattle.std.specs.Prelude.{Bool, false, cond, not, ◌||◌, ℕ, ◌+◌, leb, Option, Some, None, Result, Ok, Err}
 use Rattle.rules_numbers.specs.Limits.{time_limit}
 use Rattle.rules_refusals.specs.declared.Refusal.TheVariants.{BadState, BadTime, CountFull}
-use Rattle.rules_pacing.specs.declared.Next.{Next}
-use Rattle.rules_pacing.specs.declared.Next.TheVariants.{Unset, At}
 use Rattle.rules_pacing.specs.declared.SenderCongestionControl.{SenderCongestionControl}
-use Rattle.rules_pacing.specs.declared.Paced.{Paced}
-use Rattle.rules_pacing.specs.declared.Paced.TheVariants.{Silent, Period, Refused}
 use Rattle.rules_pacing.specs.Rate.{elapsed, estimate, increment, passes}
 use Rattle.rules_pacing.specs.Period.{allowed, period}
 use Rattle.rules_pacing.specs.Kept.{kept, control}
+use Rattle.rules_refusals.specs.declared.Refusal.{Refusal}
 
-abbrev pub due : Next → ℕ → Bool
-due Unset now = false
-due (At next) now = leb next now
+abbrev pub due : Option ℕ → ℕ → Bool
+due None now = false
+due (Some next) now = leb next now
 
 -- "since the last estimate (one due now taken as made)"
-abbrev pub since : Next → ℕ → ℕ → ℕ
+abbrev pub since : Option ℕ → ℕ → ℕ → ℕ
 since next now count = cond (due next now) 0 count
 
 -- "packets or payload bytes .. with this message, pass 2^38"
@@ -38,12 +35,12 @@ count_full s now packets bytes =
 unfoldable pub estimated : SenderCongestionControl → ℕ → ℕ → SenderCongestionControl
 estimated s next now =
     let time = elapsed now next in
-    control (At (next + time)) (estimate time s.packets) (estimate time s.bytes) s.bandwidth_mode
+    control (Some (next + time)) (estimate time s.packets) (estimate time s.bytes) s.bandwidth_mode
 
 -- "First input sets next = now + 100,000 and gives nothing. Before next: nothing."
-unfoldable pub moved_at : Next → SenderCongestionControl → ℕ → SenderCongestionControl
-moved_at Unset s now = control (At (now + 100_000)) s.packets s.bytes s.bandwidth_mode
-moved_at (At next) s now = cond (leb next now) (estimated s next now) s
+unfoldable pub moved_at : Option ℕ → SenderCongestionControl → ℕ → SenderCongestionControl
+moved_at None s now = control (Some (now + 100_000)) s.packets s.bytes s.bandwidth_mode
+moved_at (Some next) s now = cond (leb next now) (estimated s next now) s
 
 unfoldable pub moved : SenderCongestionControl → ℕ → SenderCongestionControl
 moved s now = moved_at s.next s now
@@ -59,13 +56,13 @@ after s now packets bytes = added (moved s now) packets bytes
 unfoldable pub snd_period : SenderCongestionControl → ℕ
 snd_period s = period (allowed s.bandwidth_mode s.bytes.mean) s.bytes.mean s.packets.mean
 
-unfoldable pub input : SenderCongestionControl → ℕ → ℕ → ℕ → Paced
+unfoldable pub input : SenderCongestionControl → ℕ → ℕ → ℕ → Result (Option ℕ × SenderCongestionControl) Refusal
 input s now packets bytes =
-    cond (due s.next now) (Period (snd_period (moved s now)) (after s now packets bytes)) (Silent (after s now packets bytes))
+    cond (due s.next now) (Ok (Some (snd_period (moved s now)), after s now packets bytes)) (Ok (None, after s now packets bytes))
 
 -- "The lowest that applies is given": 3, 4, 6
-unfoldable pub on_input : SenderCongestionControl → ℕ → ℕ → ℕ → Paced
+unfoldable pub on_input : SenderCongestionControl → ℕ → ℕ → ℕ → Result (Option ℕ × SenderCongestionControl) Refusal
 on_input s now packets bytes =
-    cond (not (kept s)) (Refused BadState)
-    (cond (leb time_limit now) (Refused BadTime)
-    (cond (count_full s now packets bytes) (Refused CountFull) (input s now packets bytes)))
+    cond (not (kept s)) (Err BadState)
+    (cond (leb time_limit now) (Err BadTime)
+    (cond (count_full s now packets bytes) (Err CountFull) (input s now packets bytes)))

@@ -7,19 +7,14 @@
 --   nth size len k        packet k, or none where the message has fewer
 --   judge size len        refusals 1 and 5: "packet size 1 to 1,456"; "message over 1,048,576 bytes"
 --   split, piece          the calls: how many packets, and packet k
-use Rattle.std.specs.Prelude.{cond, ℕ, ◌+◌, ◌-◌, ◌*◌, ◌/◌, min, max, ltb, leb, eqb}
+use Rattle.std.specs.Prelude.{cond, ℕ, ◌+◌, ◌-◌, ◌*◌, ◌/◌, min, max, ltb, leb, eqb, Option, Some, None, Result, Ok, Err}
 use Rattle.rules_numbers.specs.Limits.{size_most, length_most}
 use Rattle.rules_refusals.specs.declared.Refusal.TheVariants.{BadSetting, TooLong}
-use Rattle.rules_refusals.specs.declared.Verdict.{Verdict}
-use Rattle.rules_refusals.specs.declared.Verdict.TheVariants.{Accepted}
-use Rattle.rules_refusals.specs.Verdict.{when, answer}
+use Rattle.rules_refusals.specs.Verdict.{Verdict, accepted, when, answer}
 use Rattle.rules_packets.specs.declared.Place.{Place}
 use Rattle.rules_packets.specs.declared.Place.TheVariants.{First, Middle, Last, Only}
 use Rattle.rules_packets.specs.declared.Piece.{Piece}
-use Rattle.rules_packets.specs.declared.Split.{Split}
-use Rattle.rules_packets.specs.declared.Split.TheVariants as made
-use Rattle.rules_packets.specs.declared.Cutting.{Cutting}
-use Rattle.rules_packets.specs.declared.Cutting.TheVariants as cutting
+use Rattle.rules_refusals.specs.declared.Refusal.{Refusal}
 
 unfoldable pub count : ℕ → ℕ → ℕ
 count size len = max 1 ((len + (size - 1)) / size)
@@ -36,14 +31,14 @@ length_of size len k = min size (len - start_of size k)
 abbrev pub piece_of : ℕ → ℕ → ℕ → Piece
 piece_of size len k = record { place = place_of (count size len) k; start = start_of size k; len = length_of size len k }
 
-unfoldable pub nth : ℕ → ℕ → ℕ → Cutting
-nth size len k = cond (leb (count size len) k) cutting.Beyond (cutting.Done (piece_of size len k))
+unfoldable pub nth : ℕ → ℕ → ℕ → Result (Option Piece) Refusal
+nth size len k = cond (leb (count size len) k) (Ok None) (Ok (Some (piece_of size len k)))
 
 unfoldable pub judge : ℕ → ℕ → Verdict
-judge size len = when (ltb size 1) BadSetting (when (ltb size_most size) BadSetting (when (ltb length_most len) TooLong Accepted))
+judge size len = when (ltb size 1) BadSetting (when (ltb size_most size) BadSetting (when (ltb length_most len) TooLong accepted))
 
-unfoldable pub split : ℕ → ℕ → Split
-split size len = answer made.Refused (judge size len) (made.Packets (count size len))
+unfoldable pub split : ℕ → ℕ → Result ℕ Refusal
+split size len = answer Err (judge size len) (Ok (count size len))
 
-unfoldable pub piece : ℕ → ℕ → ℕ → Cutting
-piece size len k = answer cutting.Refused (judge size len) (nth size len k)
+unfoldable pub piece : ℕ → ℕ → ℕ → Result (Option Piece) Refusal
+piece size len k = answer Err (judge size len) (nth size len k)

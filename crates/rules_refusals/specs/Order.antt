@@ -8,10 +8,8 @@
 --   none_before, in_order   no test's refusal stands before r in the order; the tests stand in the order
 use Rattle.std.specs.Prelude.{Bool, true, cond, ◌&&◌, List, [], ◌∷◌, ℕ, suc, eqb, leb}
 use Rattle.rules_refusals.specs.Table.{number_of}
-use Rattle.rules_refusals.specs.Verdict.{when}
+use Rattle.rules_refusals.specs.Verdict.{Verdict, accepted, when}
 use Rattle.rules_refusals.specs.declared.Refusal.{Refusal}
-use Rattle.rules_refusals.specs.declared.Verdict.{Verdict}
-use Rattle.rules_refusals.specs.declared.Verdict.TheVariants.{Accepted}
 
 unfoldable pub order : List ℕ
 order = 1 ∷ 2 ∷ 3 ∷ 4 ∷ 5 ∷ 6 ∷ 7 ∷ 8 ∷ 9 ∷ 10 ∷ 11 ∷ 12 ∷ 13 ∷ 14 ∷ []
@@ -31,7 +29,7 @@ abbrev pub test : Bool → Refusal → Test
 test t r = record { holds = t; refusal = r }
 
 unfoldable pub first_of : List Test → Verdict
-first_of [] = Accepted
+first_of [] = accepted
 first_of (t ∷ ts) = when t.holds t.refusal (first_of ts)
 
 unfoldable pub none_before : Refusal → List Test → Bool

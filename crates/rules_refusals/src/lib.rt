@@ -4,7 +4,7 @@
 use rules_numbers::SeqNumber;
 
 // The refusals in the order of their numbers, with only the values that document 01's table names.
-#[derive(Clone, Copy)]
+#[derive(Clone, Copy, Debug, PartialEq, Eq)]
 pub enum Refusal {
     BadSetting,
     BadStore,
@@ -29,11 +29,4 @@ pub enum Refusal {
     },
     NoRoom,
     NotHeld,
-}
-
-// The verdict of a call's tests.
-#[derive(Clone, Copy)]
-pub enum Verdict {
-    Accepted,
-    Refused(Refusal),
 }

@@ -3,7 +3,6 @@
 use mathlib.Core.Path.{◌≡◌, refl, sym}
 use mathlib.Core.Bool.{false, true}
 use mathlib.Core.List.{List, [], ◌∷◌}
-use mathlib.Core.Option.{Option, none, some}
 use Prim.Native.Nat.{◌+◌, ◌-◌, ◌^◌, ◌≤◌, max, ℕ}
 use native.Mathlib.Omega.{arith}
 use lib.Dec.{eqb, leb, ltb}
@@ -12,7 +11,7 @@ use lib.Seq.{drop-nil, take-nil}
 use borrow.Author.Tests.{eqb-true, leb-true, not-false}
 use Rattle.laws.specs.Bools.{and_l, and_r}
 use Rattle.rules_refusals.specs.declared.Refusal.{Refusal}
-use Rattle.rules_refusals.specs.declared.Verdict.TheVariants.{Accepted, Refused}
+use Rattle.rules_refusals.specs.Verdict.{accepted}
 use Rattle.rules_refusals.specs.Table.{number_of}
 use Rattle.laws.specs.Choice.{cond-by}
 use Rattle.rules_numbers.specs.declared.Rtt.{Rtt}
@@ -33,13 +32,14 @@ use Rattle.rules_theorems.proofs.RunKept.{gone-kept, run-kept, same_kept}
 use Rattle.rules_theorems.proofs.Verdicts.{ack-stale, ack-taken, message-taken, run-taken}
 use Rattle.rules_numbers.specs.Rtt as RttOf
 use Rattle.pacing.specs.Laws.Kept as PacingLaws
+use Rattle.std.specs.Prelude.{Ok, Err, Option, None, Some}
 
 module _ (c : Settings) where
   rtt-fields : (rtt : Option Rtt) (s : Sender) → bad_rtt rtt ≡ false → Fields c s.rtt s.messages s.expected s.held s.pacing
       → Fields c (given rtt s.rtt) s.messages s.expected s.held s.pacing
   unfolding given bad_rtt
-  rtt-fields none s e o = o
-  rtt-fields (some rtt) s e o = record {
+  rtt-fields None s e o = o
+  rtt-fields (Some rtt) s e o = record {
     settings = o.settings;
     rtt = not-false (RttOf.in_range rtt) e;
     messages = o.messages;
@@ -57,8 +57,8 @@ module _ (c : Settings) where
       → Fields c s.rtt s.messages s.expected s.held s.pacing
       → Fields c s.rtt s.messages (expect full s.expected) s.held s.pacing
   unfolding expect
-  expect-fields n none rtt s h o = o
-  expect-fields n (some f) rtt s h o = record {
+  expect-fields n None rtt s h o = o
+  expect-fields n (Some f) rtt s h o = record {
     settings = o.settings;
     rtt = o.rtt;
     messages = o.messages;
@@ -84,7 +84,7 @@ module _ (c : Settings) where
       (enter_all-ascends s (runs_of s is) s.lost g.good.low (runs-inside s is) g.good.lost)
       g.fields g
 
-  left-kept : (k : Call) (s : Sender) (r : Refusal) → verdict_of c k s ≡ Refused r → Kept c s → Kept c (left k s r)
+  left-kept : (k : Call) (s : Sender) (r : Refusal) → verdict_of c k s ≡ Err r → Kept c s → Kept c (left k s r)
   unfolding left with_rtt verdict_of
   left-kept (message time now bytes) s r e g = cond-by (Kept c) (eqb (number_of r) 11) s s (λ q. g) (λ q. g)
   left-kept (ack n full rtt) s r e g =
@@ -98,7 +98,7 @@ module _ (c : Settings) where
   unfolding in_range
   size-least e = leb-true _ _ (and_l (leb 1 c.size) _ (and_r (ltb c.first (2 ^ 31)) _ e))
 
-  after_kept : (k : Call) (s : Sender) → Given k → verdict_of c k s ≡ Accepted → Kept c s → Kept c (after c k s)
+  after_kept : (k : Call) (s : Sender) → Given k → verdict_of c k s ≡ accepted → Kept c s → Kept c (after c k s)
   unfolding after verdict_of take_rtt
   after_kept (message time now bytes) s h e g =
       let t = message-taken c time now (length bytes) s e in

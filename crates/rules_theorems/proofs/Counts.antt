@@ -4,15 +4,12 @@
 use mathlib.Core.Path.{◌∙◌, ◌≡◌, ap, refl, subst, sym}
 use mathlib.Core.Bool.{Bool, false, true}
 use mathlib.Core.List.{List, [], ◌++◌, ◌∷◌, append_assoc, append-nil}
-use mathlib.Core.Option.{Option}
 use Prim.Native.Nat.{◌*◌, ◌+◌, ◌<◌, ◌^◌, ◌≤◌, suc, ℕ}
 use native.Mathlib.Omega.{arith}
 use lib.Dec.{leb, ltb}
 use lib.ListN.{length, length-append, length-take, take, take-append-drop}
 use borrow.Author.Tests.{eq-eqb, leb-false, leb-true, ne_eqb}
 use Rattle.rules_refusals.specs.declared.Refusal.{Refusal}
-use Rattle.rules_refusals.specs.declared.Verdict.{Verdict}
-use Rattle.rules_refusals.specs.declared.Verdict.TheVariants.{Accepted, Refused}
 use Rattle.rules_refusals.specs.Table.{number_of}
 use Rattle.laws.specs.Choice.{cond-by, cond-false, cond-true}
 use Rattle.rules_packets.specs.Split.{count}
@@ -35,6 +32,8 @@ use Rattle.rules_theorems.proofs.MessageKept.{append-kept, begin-kept, packets-u
 use Rattle.rules_theorems.proofs.Packets.{sizes_append, sizes_drop}
 use Rattle.rules_theorems.proofs.Verdicts.{ack-taken, message-taken, or-false}
 use Rattle.rules_pacing.specs.Pacing as PacingIn
+use Rattle.std.specs.Prelude.{Ok, Err, Option}
+use Rattle.rules_refusals.specs.Verdict.{Verdict, accepted}
 
 below_length : (n : ℕ) (xs : List ℕ) → below n xs + length (from n xs) ≡ length xs
 unfolding below from
@@ -58,7 +57,7 @@ module _ (c : Settings) where
     pub lost : recovered + length a.after.lost ≡ length s.lost
     pub bytes : a.after.bytes + wire_sizes c (take received s.packets) ≡ s.bytes
 
-  pub ack-counts : (n : ℕ) (full : Option ℕ) (rtt : Option Rtt) (s : Sender) → (answer c (ack n full rtt) s).verdict ≡ Accepted
+  pub ack-counts : (n : ℕ) (full : Option ℕ) (rtt : Option Rtt) (s : Sender) → (answer c (ack n full rtt) s).verdict ≡ accepted
       → Acknowledged n full s (answer c (ack n full rtt) s)
   unfolding verdict_of after said_by acknowledge take_rtt
   ack-counts n full rtt s h =
@@ -139,7 +138,7 @@ module _ (c : Settings) where
         (period_of (PacingIn.input s.pacing now (count c.size n) n))
     pub queued : Queued s a.after (packets_of c time s.messages n) removed
 
-  pub message-counts : (time now : ℕ) (bytes : List ℕ) (s : Sender) → (answer c (message time now bytes) s).verdict ≡ Accepted
+  pub message-counts : (time now : ℕ) (bytes : List ℕ) (s : Sender) → (answer c (message time now bytes) s).verdict ≡ accepted
       → Taken time now (length bytes) s (answer c (message time now bytes) s)
   unfolding verdict_of after said_by pushed_by push begin count_is_full
   message-counts time now bytes s h =
@@ -166,10 +165,10 @@ module _ (c : Settings) where
     pub same : ¬ (number_of r ≡ 11) → (answer c k s).after ≡ s
     pub stale : number_of r ≡ 11 → (answer c k s).after ≡ with_rtt k s
 
-  pub refused-nothing : (k : Call) (s : Sender) (store : List ℕ) (r : Refusal) → (answer c k s).verdict ≡ Refused r → Refusing k s store r
+  pub refused-nothing : (k : Call) (s : Sender) (store : List ℕ) (r : Refusal) → (answer c k s).verdict ≡ Err r → Refusing k s store r
   unfolding answer answer_by store_after store_by left
   refused-nothing k s store r h =
-      let v : verdict_of c k s ≡ Refused r = sym (answer-verdict c k s) ∙ h in
+      let v : verdict_of c k s ≡ Err r = sym (answer-verdict c k s) ∙ h in
       record {
         said = ap (λ (w : Verdict). (answer_by c w k s).said) v;
         store = ap (λ (w : Verdict). store_by c w k s store) v;

@@ -1,10 +1,10 @@
 -- Every turn of a run keeps the frame: next unsent lies between the front and one past the back, the loss list ascends
 -- between the front and next unsent. `rule_applies` says what holds if a rule is the first that applies; each rule is
 -- then treated by itself.
+use Rattle.std.specs.Prelude.{Option, None, Some}
 use mathlib.Core.Path.{◌∙◌, ◌≡◌, refl, sym}
 use mathlib.Core.Bool.{Bool, ◌&&◌, false, true, true≢false}
 use mathlib.Core.List.{List, [], ◌∷◌}
-use mathlib.Core.Option.{Option, none, some}
 use Prim.Native.Nat.{◌%◌, ◌+◌, ◌-◌, ◌≤◌, suc, zero, ℕ}
 use native.Mathlib.Omega.{arith}
 use lib.Dec.{eqb, ltb}
@@ -46,12 +46,12 @@ module _ (c : Settings) (now : ℕ) where
             → (m : Bool) → ltb s.next (end s) ≡ m → (d : Bool) → (draining && eqb (length s.packets) 1) ≡ d
             → Applies c now draining (first l o w m d) s
         go (x ∷ xs) p o q w r m t d u = p
-        go [] p (some n) q w r m t d u = (p, q)
-        go [] p none q true r m t d u = (p, q, ltb-true _ _ r)
-        go [] p none q false r true t d u = (p, q, ltb-false _ _ r, ltb-true _ _ t)
-        go [] p none q false r false t true u =
+        go [] p (Some n) q w r m t d u = (p, q)
+        go [] p None q true r m t d u = (p, q, ltb-true _ _ r)
+        go [] p None q false r true t d u = (p, q, ltb-false _ _ r, ltb-true _ _ t)
+        go [] p None q false r false t true u =
             (p, q, ltb-false _ _ r, ltb-false _ _ t, and_l draining _ u, eqb-true _ _ (and_r draining (eqb (length s.packets) 1) u))
-        go [] p none q false r false t false u = (
+        go [] p None q false r false t false u = (
           p,
           q,
           ltb-false _ _ r,

@@ -11,8 +11,6 @@ use lib.ListN.{get_or-append, drop, get_or, length, length-append, length-drop, 
 use lib.Seq.{get_or-append-add, get_or-drop, get_or-take}
 use borrow.Author.Tests.{ltb-false, ltb-true}
 use Rattle.rules_refusals.specs.declared.Refusal.{Refusal}
-use Rattle.rules_refusals.specs.declared.Verdict.{Verdict}
-use Rattle.rules_refusals.specs.declared.Verdict.TheVariants.{Accepted, Refused}
 use Rattle.rules_packets.specs.Split.{count, length_of, start_of}
 use Rattle.rules_pacing.specs.declared.LiveBandwidthMode.{LiveBandwidthMode}
 use Rattle.rules.specs.Ack.{ack_of}
@@ -32,6 +30,8 @@ use Rattle.rules_theorems.proofs.Places.{Numbered, Steady, ack_steady, answer-nu
 use Rattle.rules_theorems.proofs.RunKept.{old-at}
 use Rattle.rules_theorems.proofs.Store.{written_in, written-length, written_out}
 use Rattle.rules_theorems.proofs.Verdicts.{ack-taken}
+use Rattle.std.specs.Prelude.{Ok, Err}
+use Rattle.rules_refusals.specs.Verdict.{Verdict, accepted}
 
 cuts-length : (size : ℕ) (bytes : List ℕ) (i n : ℕ) → length (cuts size bytes i n) ≡ n
 unfolding cuts
@@ -198,12 +198,12 @@ module _ (c : Settings) where
     none-pushed s st h = rw (append-nil ps) h
 
     refused-holds : (k : Call) (s : Sender) (r : Refusal) → Holds c s store ps
-        → Holds c (left k s r) (store_by c (Refused r) k s store) (ps ++ payloads_by c (Refused r) k)
+        → Holds c (left k s r) (store_by c (Err r) k s store) (ps ++ payloads_by c (Err r) k)
     unfolding store_by payloads_by
     refused-holds k s r h = none-pushed (left k s r) store (steady_holds s (left k s r) store ps (left_steady c k s r) h)
 
-    taken : (k : Call) (s : Sender) → Given k → Kept c s → Numbered c s → Holds c s store ps → verdict_of c k s ≡ Accepted
-        → Holds c (after c k s) (store_by c Accepted k s store) (ps ++ payloads_by c Accepted k)
+    taken : (k : Call) (s : Sender) → Given k → Kept c s → Numbered c s → Holds c s store ps → verdict_of c k s ≡ accepted
+        → Holds c (after c k s) (store_by c accepted k s store) (ps ++ payloads_by c accepted k)
     unfolding store_by payloads_by verdict_of after stored
     taken (message time now bytes) s w g num h e =
         let v = answer-verdict c (message time now bytes) s ∙ e in
@@ -227,8 +227,8 @@ module _ (c : Settings) where
     answer-holds k s w g num h = go (verdict_of c k s) refl
       where
         go : (v : Verdict) → verdict_of c k s ≡ v → Holds c (answer_by c v k s).after (store_by c v k s store) (ps ++ payloads_by c v k)
-        go Accepted e = taken k s w g num h e
-        go (Refused r) e = refused-holds k s r h
+        go (Ok _) e = taken k s w g num h e
+        go (Err r) e = refused-holds k s r h
 
   pub calls_hold : (ks : List Call) (s : Sender) (store : List ℕ) (ps : List (List ℕ)) → AllGiven ks → Kept c s → Numbered c s
       → Holds c s store ps

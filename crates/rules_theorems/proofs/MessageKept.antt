@@ -1,11 +1,11 @@
 -- A message keeps the book rules: its packets are unsent and no longer than a packet, their wire sizes are the
 -- message's bytes and the overhead of each, removal from the front keeps the rules, and so does a push if there is
 -- room.
+use Rattle.std.specs.Prelude.{None}
 use mathlib.Core.Path.{◌≡◌, ap, refl}
 use mathlib.Core.Bool.{Bool, false, true}
 use mathlib.Mathlib.Data.Bool.Basic.{or-eq-false-eq-eq-false-and-eq-false as neither}
 use mathlib.Core.List.{List, [], ◌∷◌}
-use mathlib.Core.Option.{none}
 use Prim.Native.Nat.{◌%◌, ◌*◌, ◌+◌, ◌-◌, ◌<◌, ◌^◌, ◌≤◌, suc, zero, ℕ}
 use native.Mathlib.Omega.{arith}
 use native.Mathlib.Nat.{mod-lt}
@@ -109,7 +109,7 @@ module _ (c : Settings) where
 
   -- the fields once a message has its number, whatever its pacing
   pub numbered-fields : (s : Sender) (p : SenderCongestionControl) → PacingBooks.kept p ≡ true → Kept c s
-      → Fields c s.rtt ((s.messages + 1) % 2 ^ 26) s.expected none p
+      → Fields c s.rtt ((s.messages + 1) % 2 ^ 26) s.expected None p
   numbered-fields s p e g = record {
     settings = g.fields.settings;
     rtt = g.fields.rtt;

@@ -1,9 +1,9 @@
 -- When a run sends nothing: what follows from the earliest resend time, and which rule applies if nothing is to be
 -- sent.
+use Rattle.std.specs.Prelude.{Option, None, Some}
 use mathlib.Core.Path.{◌≡◌, refl}
 use mathlib.Core.Bool.{Bool, false, true}
 use mathlib.Core.List.{List, [], ◌∷◌}
-use mathlib.Core.Option.{Option, none, some}
 use mathlib.Core.Logic.{◌↔◌, ◌⊎◌, inl, inr}
 use Prim.Native.Nat.{◌+◌, ◌-◌, ◌<◌, ◌≤◌, suc, zero, ℕ}
 use native.Mathlib.Omega.{arith}
@@ -29,7 +29,7 @@ neither (inr x) h k = k x
 abbrev Found : ℕ → List Packet → ℕ → Type 0
 Found now ps i = (i < length ps) × ((get_or ps i nothing).resend < now)
 
-pub earliest-some : (now n : ℕ) (ps : List Packet) (m : ℕ) → earliest now n ps ≡ some m → (i : ℕ) × (m ≡ n + i) × Found now ps i
+pub earliest-some : (now n : ℕ) (ps : List Packet) (m : ℕ) → earliest now n ps ≡ Some m → (i : ℕ) × (m ≡ n + i) × Found now ps i
 unfolding earliest or_here
 earliest-some now n [] m e = let z : ◌≡◌ {A = ℕ} 0 1 = cc in absurd (omega arith)
 earliest-some now n (p ∷ ps) m e =
@@ -37,13 +37,13 @@ earliest-some now n (p ∷ ps) m e =
     (λ k. earliest-some now (suc n) ps k)
   where
     go : (b : Bool) → ltb p.resend now ≡ b → (o : Option ℕ) → earliest p.resend (suc n) ps ≡ o
-        → ((k : ℕ) → earliest p.resend (suc n) ps ≡ some k → (i : ℕ) × (k ≡ suc n + i) × Found p.resend ps i)
-        → ((k : ℕ) → earliest now (suc n) ps ≡ some k → (i : ℕ) × (k ≡ suc n + i) × Found now ps i)
+        → ((k : ℕ) → earliest p.resend (suc n) ps ≡ Some k → (i : ℕ) × (k ≡ suc n + i) × Found p.resend ps i)
+        → ((k : ℕ) → earliest now (suc n) ps ≡ Some k → (i : ℕ) × (k ≡ suc n + i) × Found now ps i)
         → (i : ℕ) × (m ≡ n + i) × Found now (p ∷ ps) i
-    go true f none g h k =
-        let q : some n ≡ some m = rw (f, g, earliest) at e in let r : m ≡ n = cc in (0, (omega arith), (omega arith, ltb-true _ _ f))
-    go true f (some j) g h k =
-        let q : some j ≡ some m = rw (f, g, earliest) at e in
+    go true f None g h k =
+        let q : Some n ≡ Some m = rw (f, g, earliest) at e in let r : m ≡ n = cc in (0, (omega arith), (omega arith, ltb-true _ _ f))
+    go true f (Some j) g h k =
+        let q : Some j ≡ Some m = rw (f, g, earliest) at e in
         let r : j ≡ m = cc in
         let x = h j g in
         (suc x.0, omega (arith, x.1), (omega (arith, x.2.0), omega (arith, x.2.1, ltb-true)))
@@ -51,22 +51,22 @@ earliest-some now n (p ∷ ps) m e =
         let x = k m (rw (f, earliest) at e) in
         (suc x.0, omega (arith, x.1), (omega (arith, x.2.0), x.2.1))
 
-pub earliest-none : (now n : ℕ) (ps : List Packet) → earliest now n ps ≡ none → (i : ℕ) → i < length ps → now ≤ (get_or ps i nothing).resend
+pub earliest-none : (now n : ℕ) (ps : List Packet) → earliest now n ps ≡ None → (i : ℕ) → i < length ps → now ≤ (get_or ps i nothing).resend
 unfolding earliest or_here
 earliest-none now n [] e i h = absurd (omega arith)
 earliest-none now n (p ∷ ps) e i h =
     go (ltb p.resend now) refl (earliest p.resend (suc n) ps) refl i h (λ f. earliest-none now (suc n) ps f)
   where
     go : (b : Bool) → ltb p.resend now ≡ b → (o : Option ℕ) → earliest p.resend (suc n) ps ≡ o → (i : ℕ) → i < length (p ∷ ps)
-        → (earliest now (suc n) ps ≡ none → (i : ℕ) → i < length ps → now ≤ (get_or ps i nothing).resend)
+        → (earliest now (suc n) ps ≡ None → (i : ℕ) → i < length ps → now ≤ (get_or ps i nothing).resend)
         → now ≤ (get_or (p ∷ ps) i nothing).resend
-    go true f none g i h k = let q : some n ≡ none = rw (f, g, earliest) at e in let z : ◌≡◌ {A = ℕ} 0 1 = cc in absurd (omega arith)
-    go true f (some j) g i h k = let q : some j ≡ none = rw (f, g, earliest) at e in let z : ◌≡◌ {A = ℕ} 0 1 = cc in absurd (omega arith)
+    go true f None g i h k = let q : Some n ≡ None = rw (f, g, earliest) at e in let z : ◌≡◌ {A = ℕ} 0 1 = cc in absurd (omega arith)
+    go true f (Some j) g i h k = let q : Some j ≡ None = rw (f, g, earliest) at e in let z : ◌≡◌ {A = ℕ} 0 1 = cc in absurd (omega arith)
     go false f o g zero h k = ltb-false _ _ f
     go false f o g (suc i) h k = k (rw (f, earliest) at e) i (omega arith)
 
 -- it is the earliest, and the first such: no other is earlier, and all nearer the front are later
-pub earliest-least : (now n : ℕ) (ps : List Packet) (i : ℕ) → earliest now n ps ≡ some (n + i)
+pub earliest-least : (now n : ℕ) (ps : List Packet) (i : ℕ) → earliest now n ps ≡ Some (n + i)
     → (j : ℕ) → j < length ps
     → ((get_or ps i nothing).resend ≤ (get_or ps j nothing).resend) × (j < i → (get_or ps i nothing).resend < (get_or ps j nothing).resend)
 unfolding earliest or_here
@@ -82,9 +82,9 @@ earliest-least now n (p ∷ ps) i e j h =
     Least qs i j = (At i qs ≤ At j qs) × (j < i → At i qs < At j qs)
 
     -- the earliest comes later in the list, before a bound that is at most p's resend time
-    past : (bound : ℕ) → bound ≤ p.resend → (m : ℕ) → earliest bound (suc n) ps ≡ some m → (i : ℕ) → m ≡ n + i → (j : ℕ)
+    past : (bound : ℕ) → bound ≤ p.resend → (m : ℕ) → earliest bound (suc n) ps ≡ Some m → (i : ℕ) → m ≡ n + i → (j : ℕ)
         → j < length (p ∷ ps)
-        → ((i : ℕ) → earliest bound (suc n) ps ≡ some (suc n + i) → (j : ℕ) → j < length ps → Least ps i j) → Least (p ∷ ps) i j
+        → ((i : ℕ) → earliest bound (suc n) ps ≡ Some (suc n + i) → (j : ℕ) → j < length ps → Least ps i j) → Least (p ∷ ps) i j
     past bound b m e i q j h k = at i q j h (earliest-some bound (suc n) ps m e)
       where
         at : (i : ℕ) → m ≡ n + i → (j : ℕ) → j < length (p ∷ ps) → (x : ℕ) × (m ≡ suc n + x) × Found bound ps x → Least (p ∷ ps) i j
@@ -95,28 +95,28 @@ earliest-least now n (p ∷ ps) i e j h =
             let y : m ≡ suc n + i = omega arith in let z = k i (rw y at e) j (omega arith) in (z.0, λ u. z.1 (omega arith))
 
     go : (b : Bool) → ltb p.resend now ≡ b → (o : Option ℕ) → earliest p.resend (suc n) ps ≡ o → (i : ℕ)
-        → earliest now n (p ∷ ps) ≡ some (n + i) → (j : ℕ) → j < length (p ∷ ps)
-        → ((i : ℕ) → earliest p.resend (suc n) ps ≡ some (suc n + i) → (j : ℕ) → j < length ps → Least ps i j)
-        → ((i : ℕ) → earliest now (suc n) ps ≡ some (suc n + i) → (j : ℕ) → j < length ps → Least ps i j)
+        → earliest now n (p ∷ ps) ≡ Some (n + i) → (j : ℕ) → j < length (p ∷ ps)
+        → ((i : ℕ) → earliest p.resend (suc n) ps ≡ Some (suc n + i) → (j : ℕ) → j < length ps → Least ps i j)
+        → ((i : ℕ) → earliest now (suc n) ps ≡ Some (suc n + i) → (j : ℕ) → j < length ps → Least ps i j)
         → Least (p ∷ ps) i j
-    go true f none g zero e zero h k l = (omega arith, λ z. absurd (omega arith))
-    go true f none g zero e (suc j) h k l = (earliest-none p.resend (suc n) ps g j (omega arith), λ z. absurd (omega arith))
-    go true f none g (suc i) e j h k l =
-        let q : some n ≡ some (n + suc i) = rw (f, g, earliest) at e in let r : n ≡ n + suc i = cc in absurd (omega arith)
-    go true f (some m) g i e j h k l =
-        let q : some m ≡ some (n + i) = rw (f, g, earliest) at e in past p.resend (omega arith) m g i (cc) j h k
+    go true f None g zero e zero h k l = (omega arith, λ z. absurd (omega arith))
+    go true f None g zero e (suc j) h k l = (earliest-none p.resend (suc n) ps g j (omega arith), λ z. absurd (omega arith))
+    go true f None g (suc i) e j h k l =
+        let q : Some n ≡ Some (n + suc i) = rw (f, g, earliest) at e in let r : n ≡ n + suc i = cc in absurd (omega arith)
+    go true f (Some m) g i e j h k l =
+        let q : Some m ≡ Some (n + i) = rw (f, g, earliest) at e in past p.resend (omega arith) m g i (cc) j h k
     go false f o g i e j h k l = past now (ltb-false _ _ f) (n + i) (rw (f, earliest) at e) i refl j h l
 
 module _ (c : Settings) (now : ℕ) (draining : Bool) where
   -- what `is_due` says of the state
-  pub due-none : (s : Sender) → Good s → is_due c now draining s ≡ none → (n : ℕ) → s.front ≤ n → n < s.next → now ≤ (packet s n).resend
+  pub due-none : (s : Sender) → Good s → is_due c now draining s ≡ None → (n : ℕ) → s.front ≤ n → n < s.next → now ≤ (packet s n).resend
   unfolding packet
   due-none s g e n h k =
       let a : n - s.front < sent_of s = omega arith in
       let b : n - s.front < length (take (sent_of s) s.packets) = simp length-take (omega arith) in
       rw get_or-take at (earliest-none now s.front (take (sent_of s) s.packets) e (n - s.front) b)
 
-  pub due-some : (s : Sender) → Good s → (n : ℕ) → is_due c now draining s ≡ some n
+  pub due-some : (s : Sender) → Good s → (n : ℕ) → is_due c now draining s ≡ Some n
       → (s.front ≤ n) × (n < s.next) × ((packet s n).resend < now)
   unfolding packet
   due-some s g n e =

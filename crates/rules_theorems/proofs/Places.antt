@@ -3,7 +3,6 @@
 use mathlib.Core.Path.{◌∙◌, ◌≡◌, ap, refl, subst, sym}
 use mathlib.Core.Bool.{Bool, ◌&&◌, false, true}
 use mathlib.Core.List.{List, [], ◌∷◌}
-use mathlib.Core.Option.{Option, some}
 use Prim.Native.Nat.{◌%◌, ◌+◌, ◌-◌, ◌<◌, ◌^◌, ◌≤◌, suc, zero, ℕ}
 use native.Mathlib.Omega.{arith}
 use lib.Dec.{eqb, leb, ltb}
@@ -13,7 +12,7 @@ use borrow.Author.Tests.{eqb-false, eqb-true, leb-true, lt-ltb, ltb-true}
 use Rattle.laws.specs.Ascending.{Ascends}
 use Rattle.laws.specs.Bools.{and_l, and_r}
 use Rattle.rules_refusals.specs.declared.Refusal.{Refusal}
-use Rattle.rules_refusals.specs.declared.Verdict.TheVariants.{Accepted}
+use Rattle.rules_refusals.specs.Verdict.{accepted}
 use Rattle.rules_refusals.specs.Table.{number_of}
 use Rattle.laws.specs.Choice.{cond-by, cond-true}
 use Rattle.rules_numbers.specs.declared.Rtt.{Rtt}
@@ -36,6 +35,7 @@ use Rattle.rules_theorems.proofs.Frame.{dropped-good, late-le, obey-good, rule_a
 use Rattle.rules_theorems.proofs.None.{due-some}
 use Rattle.rules_theorems.proofs.Split.{loop-end, loop-on, run_is}
 use Rattle.rules_theorems.proofs.Verdicts.{ack-taken, run-taken}
+use Rattle.std.specs.Prelude.{Ok, Option, Some}
 
 -- one past the back, the pushes and the lengths of the packets that stay don't change
 pub record Steady (s t : Sender) : Type 0 where
@@ -183,7 +183,7 @@ module _ (c : Settings) where
   unfolding report
   nak_steady is s = same_steady s (report is s) refl refl refl
 
-  message-numbered : (time now : ℕ) (bytes : List ℕ) (s : Sender) → (answer c (message time now bytes) s).verdict ≡ Accepted → Numbered s
+  message-numbered : (time now : ℕ) (bytes : List ℕ) (s : Sender) → (answer c (message time now bytes) s).verdict ≡ accepted → Numbered s
       → Numbered (answer c (message time now bytes) s).after
   message-numbered time now bytes s h n =
       let t = message-counts c time now bytes s h in
@@ -191,7 +191,7 @@ module _ (c : Settings) where
       let l = simp length-append at (ap length q.packets) in
       omega (arith, q.front, q.pushed, l)
 
-  taken-numbered : (k : Call) (s : Sender) → Numbered s → verdict_of c k s ≡ Accepted → Numbered (after c k s)
+  taken-numbered : (k : Call) (s : Sender) → Numbered s → verdict_of c k s ≡ accepted → Numbered (after c k s)
   unfolding after verdict_of
   taken-numbered (message time now bytes) s n e =
       let v = answer-verdict c (message time now bytes) s ∙ e in
@@ -233,7 +233,7 @@ module _ (c : Settings) where
   -- "the k-th packet ever pushed (from 0) lies at (k mod capacity) × packet size": it has the number first + k, and
   -- while it is buffered a request for its payload answers that place and its length
   pub payload-place : (s : Sender) → Kept c s → Numbered s → (k : ℕ) → s.front ≤ c.first + k → c.first + k < end s
-      → payload_of c s (wire (c.first + k)) ≡ some (record { place = place_of c k; len = (packet s (c.first + k)).len })
+      → payload_of c s (wire (c.first + k)) ≡ Some (record { place = place_of c k; len = (packet s (c.first + k)).len })
   unfolding payload_of
   payload-place s g n k lo hi =
       let few = buffered_few s g in

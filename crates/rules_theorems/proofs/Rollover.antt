@@ -1,10 +1,10 @@
 -- Moving every time and `now` by the same amount changes nothing in what a run does but the times in its records:
 -- lateness and resend times are compared as full times, and both sides of each comparison move. So no rollover of the
 -- 32-bit stamp can change a run.
+use Rattle.std.specs.Prelude.{Some}
 use mathlib.Core.Path.{◌∙◌, ◌≡◌, ap, refl, sym}
 use mathlib.Core.Bool.{Bool, ◌&&◌, false, true}
 use mathlib.Core.List.{List, [], ◌++◌, ◌∷◌, map}
-use mathlib.Core.Option.{some}
 use Prim.Native.Nat.{◌%◌, ◌+◌, ◌-◌, ◌<◌, ◌^◌, ◌≤◌, max, suc, zero, ℕ}
 use native.Mathlib.Omega.{arith}
 use lib.Dec.{eqb, ltb}
@@ -117,7 +117,7 @@ module _ (c : Settings) (d now : ℕ) where
           rtt = s.rtt;
           messages = s.messages;
           expected = s.expected;
-          held = some (record { number = s.front; slot = (s.pushed - (s.front + count i - s.front)) % capacity c; len = len i });
+          held = Some (record { number = s.front; slot = (s.pushed - (s.front + count i - s.front)) % capacity c; len = len i });
           pacing = s.pacing;
           pushed = s.pushed;
         }

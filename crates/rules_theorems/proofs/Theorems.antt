@@ -21,7 +21,6 @@
 use mathlib.Core.Path.{◌∙◌, ◌≡◌, ap, refl}
 use mathlib.Core.Bool.{Bool, ◌&&◌, not, true}
 use mathlib.Core.List.{List, []}
-use mathlib.Core.Option.{some}
 use mathlib.Core.Logic.{◌↔◌}
 use Prim.Native.Nat.{◌+◌, ◌-◌, ◌<◌, ◌^◌, ◌≤◌, min, suc, ℕ}
 use native.Mathlib.Omega.{arith}
@@ -29,7 +28,7 @@ use lib.ListN.{length, length-take}
 use borrow.Author.Tests.{not-false}
 use Rattle.laws.specs.Bools.{and_l, and_r}
 use Rattle.rules_refusals.specs.declared.Refusal.TheVariants.{BadSetting}
-use Rattle.rules_refusals.specs.declared.Verdict.TheVariants.{Accepted}
+use Rattle.rules_refusals.specs.Verdict.{accepted}
 use Rattle.refusals.specs.Laws.{when-accepted}
 use Rattle.rules_pacing.specs.declared.LiveBandwidthMode.{LiveBandwidthMode}
 use Rattle.rules_pacing.specs.Period.{mode_in_range}
@@ -61,15 +60,16 @@ use Rattle.rules_theorems.proofs.RunKept.{old-at}
 use Rattle.rules_theorems.proofs.Sends.{split-left, split-none, split-within}
 use Rattle.rules_theorems.proofs.Served.{served}
 use Rattle.rules_theorems.proofs.Split.{run_is}
+use Rattle.std.specs.Prelude.{Ok, Some}
 
 module _ (c : Settings) where
-  new-kept : (mode : LiveBandwidthMode) → new_verdict c mode ≡ Accepted → Kept c (fresh c mode)
+  new-kept : (mode : LiveBandwidthMode) → new_verdict c mode ≡ accepted → Kept c (fresh c mode)
   unfolding new_verdict
   new-kept mode e =
-      let r = not-false (in_range c && mode_in_range mode) (when-accepted (not (in_range c && mode_in_range mode)) BadSetting Accepted e).0 in
+      let r = not-false (in_range c && mode_in_range mode) (when-accepted (not (in_range c && mode_in_range mode)) BadSetting accepted e).0 in
       fresh_kept c mode (and_l _ _ r) (and_r (in_range c) (mode_in_range mode) r)
 
-  pub books-kept : (mode : LiveBandwidthMode) (ks : List Call) → new_verdict c mode ≡ Accepted → AllGiven ks
+  pub books-kept : (mode : LiveBandwidthMode) (ks : List Call) → new_verdict c mode ≡ accepted → AllGiven ks
       → kept c (calls c ks (fresh c mode)) ≡ true
   books-kept mode ks e h = facts_kept c _ (calls-kept c ks (fresh c mode) h (new-kept mode e))
 
@@ -105,12 +105,12 @@ module _ (c : Settings) where
     run_room p s g = rw run_is (omega (arith, split-room c now draining p s g.good))
 
   -- what an accepted run answers
-  ran : (now p : ℕ) (draining : Bool) (room : ℕ) (s : Sender) → (answer c (runs now p draining room) s).verdict ≡ Accepted
+  ran : (now p : ℕ) (draining : Bool) (room : ℕ) (s : Sender) → (answer c (runs now p draining room) s).verdict ≡ accepted
       → (answer c (runs now p draining room) s).said ≡ Ran (run c now draining p s).records (run c now draining p s).left
   unfolding said_by
   ran now p draining room s h = ap (λ (a : Answer). a.said) (answer-taken c (runs now p draining room) s h)
 
-  ran-records : (now p : ℕ) (draining : Bool) (room : ℕ) (s : Sender) → (answer c (runs now p draining room) s).verdict ≡ Accepted
+  ran-records : (now p : ℕ) (draining : Bool) (room : ℕ) (s : Sender) → (answer c (runs now p draining room) s).verdict ≡ accepted
       → records (answer c (runs now p draining room) s) ≡ (run c now draining p s).records
   unfolding records_of
   ran-records now p draining room s h = ap records_of (ran now p draining room s h)
@@ -132,7 +132,7 @@ module _ (c : Settings) where
     served = λ n ks h o sp u. served c n ks s h g o sp (omega arith);
   }
 
-  pub demand-three : (mode : LiveBandwidthMode) (ks : List Call) → new_verdict c mode ≡ Accepted → AllGiven ks
+  pub demand-three : (mode : LiveBandwidthMode) (ks : List Call) → new_verdict c mode ≡ accepted → AllGiven ks
       → DemandThree c (calls c ks (fresh c mode))
   demand-three mode ks e h = demand (calls c ks (fresh c mode)) (calls-kept c ks (fresh c mode) h (new-kept mode e))
 
@@ -152,16 +152,16 @@ module _ (c : Settings) where
 
   -- from a fresh sender, after any calls: the k-th packet ever pushed, while it is buffered, lies at (k mod capacity) ×
   -- packet size
-  pub payload-lies : (mode : LiveBandwidthMode) (ks : List Call) → new_verdict c mode ≡ Accepted → AllGiven ks
+  pub payload-lies : (mode : LiveBandwidthMode) (ks : List Call) → new_verdict c mode ≡ accepted → AllGiven ks
       → (k : ℕ) → (calls c ks (fresh c mode)).front ≤ c.first + k → c.first + k < end (calls c ks (fresh c mode))
       → payload_of c (calls c ks (fresh c mode)) (wire (c.first + k))
-      ≡ some (record { place = place_of c k; len = (packet (calls c ks (fresh c mode)) (c.first + k)).len })
+      ≡ Some (record { place = place_of c k; len = (packet (calls c ks (fresh c mode)) (c.first + k)).len })
   payload-lies mode ks e h =
       payload-place c (calls c ks (fresh c mode)) (calls-kept c ks (fresh c mode) h (new-kept mode e))
       (calls-numbered c ks (fresh c mode) (fresh-numbered c mode))
 
   -- and the store, if it is long enough, holds there what was pushed: byte j of the k-th payload is at that place + j
-  pub payload-readable : (mode : LiveBandwidthMode) (ks : List Call) (store : List ℕ) → new_verdict c mode ≡ Accepted → AllGiven ks
+  pub payload-readable : (mode : LiveBandwidthMode) (ks : List Call) (store : List ℕ) → new_verdict c mode ≡ accepted → AllGiven ks
       → store_size c ≤ length store → Holds c (calls c ks (fresh c mode)) (stores c ks (fresh c mode) store) (payloads c ks (fresh c mode))
   payload-readable mode ks store e h big =
       calls_hold c ks (fresh c mode) store [] h (new-kept mode e) (fresh-numbered c mode) (fresh_holds c mode store big)

@@ -5,7 +5,6 @@
 --   not-kept, when-past                   if the books break a rule every call answers 3; a refusal after the first of a chain
 use mathlib.Core.Path.{◌≡◌, ap, refl}
 use mathlib.Core.Bool.{Bool, ◌||◌, false, not, true, true≢false}
-use mathlib.Core.Option.{Option}
 use Prim.Native.Nat.{◌+◌, ◌<◌, ◌^◌, ◌≤◌, min, ℕ}
 use native.Mathlib.Omega.{arith}
 use lib.Dec.{eqb, leb, ltb}
@@ -13,9 +12,7 @@ use lib.ListN.{length}
 use borrow.Author.Tests.{leb-false, ltb-false, not-false}
 use Rattle.rules_refusals.specs.declared.Refusal.{Refusal}
 use Rattle.rules_refusals.specs.declared.Refusal.TheVariants.{BadNumber, BadRtt, BadState, Empty, InvalidAck}
-use Rattle.rules_refusals.specs.declared.Verdict.{Verdict}
-use Rattle.rules_refusals.specs.declared.Verdict.TheVariants.{Accepted, Refused}
-use Rattle.rules_refusals.specs.Verdict.{verdict_number, when}
+use Rattle.rules_refusals.specs.Verdict.{Verdict, accepted, refused, verdict_number, when}
 use Rattle.refusals.specs.Laws.{never, when-accepted}
 use Rattle.rules_refusals.specs.Table.{number_of}
 use Rattle.rules_numbers.specs.declared.Rtt.{Rtt}
@@ -26,12 +23,13 @@ use Rattle.rules.specs.Refusals.{ack_verdict, bad_rtt, count_is_full, full_verdi
 use Rattle.rules.specs.Sender.{Sender, sent_of}
 use Rattle.rules.specs.Settings.{Settings}
 use Rattle.rules_theorems.specs.Laws.BookRules.{Kept, kept_facts}
+use Rattle.std.specs.Prelude.{Ok, Err, Option}
 
-differ : {A : Type 0} {r q : Refusal} → Refused r ≡ Refused q → ¬ (number_of r ≡ number_of q) → A
+differ : {A : Type 0} {r q : Refusal} → refused r ≡ refused q → ¬ (number_of r ≡ number_of q) → A
 differ {r = r} {q = q} e h = absurd (h (ap verdict_number e))
 
-pub when-past : (t : Bool) (r : Refusal) (v : Verdict) (q : Refusal) → ¬ (number_of r ≡ number_of q) → when t r v ≡ Refused q
-    → (t ≡ false) × (v ≡ Refused q)
+pub when-past : (t : Bool) (r : Refusal) (v : Verdict) (q : Refusal) → ¬ (number_of r ≡ number_of q) → when t r v ≡ Err q
+    → (t ≡ false) × (v ≡ Err q)
 when-past true r v q h e = differ e h
 when-past false r v q h e = (refl, e)
 
@@ -50,7 +48,7 @@ module _ (c : Settings) where
     pub short : n ≤ 1_048_576
     pub full : count_is_full c now n s ≡ false
 
-  pub message-taken : (t now n : ℕ) (s : Sender) → message_verdict c t now n s ≡ Accepted → Pushable t now n s
+  pub message-taken : (t now n : ℕ) (s : Sender) → message_verdict c t now n s ≡ accepted → Pushable t now n s
   unfolding message_verdict
   message-taken t now n s e =
       let a = when-accepted _ _ _ e in
@@ -71,9 +69,9 @@ module _ (c : Settings) where
     pub number : n < 2 ^ 31
     pub rtt : bad_rtt r ≡ false
     pub near : ack_of s n ≤ sent_of s
-    pub full : full_verdict f s.expected ≡ Accepted
+    pub full : full_verdict f s.expected ≡ accepted
 
-  pub ack-taken : (n : ℕ) (full : Option ℕ) (rtt : Option Rtt) (s : Sender) → ack_verdict c n full rtt s ≡ Accepted → Ackable n full rtt s
+  pub ack-taken : (n : ℕ) (full : Option ℕ) (rtt : Option Rtt) (s : Sender) → ack_verdict c n full rtt s ≡ accepted → Ackable n full rtt s
   unfolding ack_verdict
   ack-taken n full rtt s e =
       let a = when-accepted _ _ _ e in
@@ -90,7 +88,7 @@ module _ (c : Settings) where
       }
 
   pub ack-stale : (n : ℕ) (full : Option ℕ) (rtt : Option Rtt) (s : Sender) (r : Refusal) → number_of r ≡ 11
-      → ack_verdict c n full rtt s ≡ Refused r → Kept c s × (bad_rtt rtt ≡ false)
+      → ack_verdict c n full rtt s ≡ Err r → Kept c s × (bad_rtt rtt ≡ false)
   unfolding ack_verdict
   ack-stale n full rtt s r h e =
       let a = when-past (not (kept c s)) BadState _ r (λ q. omega arith) e in
@@ -103,7 +101,7 @@ module _ (c : Settings) where
     pub soon : now < 2 ^ 48
     pub room : min p (length s.packets) + 3 ≤ most
 
-  pub run-taken : (now p room : ℕ) (s : Sender) → run_verdict c now p room s ≡ Accepted → Runnable now p room s
+  pub run-taken : (now p room : ℕ) (s : Sender) → run_verdict c now p room s ≡ accepted → Runnable now p room s
   unfolding run_verdict
   run-taken now p room s e =
       let a = when-accepted _ _ _ e in

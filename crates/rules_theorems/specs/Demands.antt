@@ -13,20 +13,19 @@ pub mod Once
 pub mod Times
 pub mod Losses
 pub mod Store
-use Rattle.std.specs.Prelude.{◌≡◌, Bool, true, List, [], ◌++◌, ◌∷◌, ◌↔◌, ◌⊎◌, ◌%◌, ◌+◌, ◌-◌, ◌<◌, ◌^◌, ◌≤◌, suc, ℕ, length}
-use Rattle.std.proofs.Math.Option.{none, some}
-use Rattle.rules_refusals.specs.declared.Verdict.TheVariants.{Accepted}
+use Rattle.std.specs.Prelude.{◌≡◌, Bool, true, List, [], ◌++◌, ◌∷◌, ◌↔◌, ◌⊎◌, ◌%◌, ◌+◌, ◌-◌, ◌<◌, ◌^◌, ◌≤◌, suc, ℕ, length, Some, None}
 use Rattle.rules.specs.Calls.{Call, Ran, ack, all_records, all_units, answer, calls, message, nak, payload, records, runs}
 use Rattle.rules.specs.Numbers.{wire}
 use Rattle.rules.specs.Records.{Action, ByLoss, is_send, sends}
 use Rattle.rules.specs.Run.{dropped, late}
 use Rattle.rules.specs.Sender.{Sender, below, end, packet, sent_of}
 use Rattle.rules.specs.Settings.{Settings}
+use Rattle.rules_refusals.specs.Verdict.{accepted}
 
 abbrev pub Given : Call → Type 0
 Given (message time now bytes) = Unit {0}
-Given (ack number none rtt) = Unit {0}
-Given (ack number (some full) rtt) = full < 2 ^ 32
+Given (ack number None rtt) = Unit {0}
+Given (ack number (Some full) rtt) = full < 2 ^ 32
 Given (nak words room) = Unit {0}
 Given (runs now p draining room) = Unit {0}
 Given (payload number) = Unit {0}
@@ -72,12 +71,12 @@ after_drop c now s = (dropped c now (late c now s.packets) s).after
 -- Demand 3 of a sender s. A run is a call like any other; its answer is read from its records
 pub record DemandThree (c : Settings) (s : Sender) : Type 0 where
   pub lost : (n : ℕ) → On n s.lost → (s.front ≤ n) × (n < end s) × (n < s.next) × (1 ≤ (packet s n).count)
-  pub most : (now p : ℕ) (draining : Bool) (room : ℕ) → (answer c (runs now p draining room) s).verdict ≡ Accepted
+  pub most : (now p : ℕ) (draining : Bool) (room : ℕ) → (answer c (runs now p draining room) s).verdict ≡ accepted
       → Within p (records (answer c (runs now p draining room) s))
   pub empty : (now : ℕ) (draining : Bool) (room : ℕ) → records (answer c (runs now 0 draining room) s) ≡ []
-  pub quiet : (now p : ℕ) (draining : Bool) (room : ℕ) → (answer c (runs now (suc p) draining room) s).verdict ≡ Accepted
+  pub quiet : (now p : ℕ) (draining : Bool) (room : ℕ) → (answer c (runs now (suc p) draining room) s).verdict ≡ accepted
       → (sends (records (answer c (runs now (suc p) draining room) s)) ≡ 0) ↔ Quiet c now draining (after_drop c now s)
-  pub left : (now p : ℕ) (draining : Bool) (room : ℕ) → (answer c (runs now p draining room) s).verdict ≡ Accepted
+  pub left : (now p : ℕ) (draining : Bool) (room : ℕ) → (answer c (runs now p draining room) s).verdict ≡ accepted
       → (answer c (runs now p draining room) s).said
       ≡ Ran (records (answer c (runs now p draining room) s)) (p - sends (records (answer c (runs now p draining room) s)))
   pub served : (n : ℕ) (ks : List Call) → AllGiven ks → On n s.lost → Spared c n ks s → below n s.lost + 1 ≤ all_units c ks s

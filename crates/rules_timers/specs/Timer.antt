@@ -10,17 +10,11 @@
 --   periods t now                                how many periods have elapsed, for a timer whose period is not 0
 --   ticked t now                                 what a check answers, and the timer after it
 pub mod Examples
-use Rattle.std.specs.Prelude.{Bool, cond, not, ◌&&◌, ℕ, ◌+◌, ◌-◌, ◌*◌, ◌/◌, ◌^◌, min, max, ltb, leb, eqb}
+use Rattle.std.specs.Prelude.{Bool, cond, not, ◌&&◌, ℕ, ◌+◌, ◌-◌, ◌*◌, ◌/◌, ◌^◌, min, max, ltb, leb, eqb, Some, None, Result, Ok, Err}
 use Rattle.rules_refusals.specs.declared.Refusal.TheVariants.{BadSetting, BadState, BadTime}
 use Rattle.rules_timers.specs.declared.Timer.{Timer}
-use Rattle.rules_timers.specs.declared.Elapsed.TheVariants.{Nothing, Periods}
 use Rattle.rules_timers.specs.declared.Ticked.{Ticked}
-use Rattle.rules_timers.specs.declared.TimerSet.{TimerSet}
-use Rattle.rules_timers.specs.declared.TimerSet.TheVariants as set
-use Rattle.rules_timers.specs.declared.Nanoseconds.{Nanoseconds}
-use Rattle.rules_timers.specs.declared.Nanoseconds.TheVariants as read
-use Rattle.rules_timers.specs.declared.TimerChecked.{TimerChecked}
-use Rattle.rules_timers.specs.declared.TimerChecked.TheVariants as checked
+use Rattle.rules_refusals.specs.declared.Refusal.{Refusal}
 
 abbrev pub instant_limit : ℕ
 instant_limit = 2 ^ 58
@@ -43,41 +37,40 @@ kept t = ltb t.last instant_limit && leb t.period longest
 abbrev pub started : ℕ → ℕ → Timer
 started now period = timer (max shortest_new period) now
 
-unfoldable pub made : ℕ → ℕ → TimerSet
+unfoldable pub made : ℕ → ℕ → Result Timer Refusal
 made now period =
-    cond (ltb longest period) (set.Refused BadSetting)
-    (cond (leb instant_limit now) (set.Refused BadTime)
-    (set.Done (started now period)))
+    cond (ltb longest period) (Err BadSetting)
+    (cond (leb instant_limit now) (Err BadTime)
+    (Ok (started now period)))
 
-unfoldable pub period_of : Timer → Nanoseconds
-period_of t = cond (not (kept t)) (read.Refused BadState) (read.Are t.period)
+unfoldable pub period_of : Timer → Result ℕ Refusal
+period_of t = cond (not (kept t)) (Err BadState) (Ok t.period)
 
-unfoldable pub next_instant : Timer → Nanoseconds
-next_instant t = cond (not (kept t)) (read.Refused BadState) (read.Are (t.last + t.period))
+unfoldable pub next_instant : Timer → Result ℕ Refusal
+next_instant t = cond (not (kept t)) (Err BadState) (Ok (t.last + t.period))
 
-unfoldable pub reset : Timer → ℕ → TimerSet
+unfoldable pub reset : Timer → ℕ → Result Timer Refusal
 reset t now =
-    cond (not (kept t)) (set.Refused BadState)
-    (cond (leb instant_limit now) (set.Refused BadTime)
-    (set.Done (timer t.period now)))
+    cond (not (kept t)) (Err BadState)
+    (cond (leb instant_limit now) (Err BadTime)
+    (Ok (timer t.period now)))
 
-unfoldable pub set_period : Timer → ℕ → TimerSet
+unfoldable pub set_period : Timer → ℕ → Result Timer Refusal
 set_period t period =
-    cond (ltb longest period) (set.Refused BadSetting)
-    (cond (not (kept t)) (set.Refused BadState)
-    (set.Done (timer period t.last)))
+    cond (ltb longest period) (Err BadSetting)
+    (cond (not (kept t)) (Err BadState)
+    (Ok (timer period t.last)))
 
 unfoldable pub periods : Timer → ℕ → ℕ
 periods t now = min most ((now - t.last) / t.period)
 
 unfoldable pub ticked : Timer → ℕ → Ticked
 ticked t now =
-    cond (eqb t.period 0) (record { elapsed = Periods 1; timer = t })
-    (cond (ltb now (t.last + t.period)) (record { elapsed = Nothing; timer = t })
-    (record { elapsed = Periods (periods t now); timer = timer t.period (t.last + periods t now * t.period) }))
+    cond (eqb t.period 0) (record { elapsed = Some 1; timer = t })
+    (cond (ltb now (t.last + t.period)) (record { elapsed = None; timer = t })
+    (record { elapsed = Some (periods t now); timer = timer t.period (t.last + periods t now * t.period) }))
 
-unfoldable pub check_expired : Timer → ℕ → TimerChecked
+unfoldable pub check_expired : Timer → ℕ → Result Ticked Refusal
 check_expired t now =
-    cond (not (kept t)) (checked.Refused BadState)
-    (cond (leb instant_limit now) (checked.Refused BadTime)
-    (checked.Done (ticked t now)))
+    cond (not (kept t)) (Err BadState)
+    (cond (leb instant_limit now) (Err BadTime) (Ok (ticked t now)))

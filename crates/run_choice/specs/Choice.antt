@@ -4,8 +4,7 @@
 --   due_at now b ring               rule 3's choice
 --   rule_at c now draining b ring   the first that applies
 pub mod Laws
-use Rattle.std.specs.Prelude.{Bool, true, false, ◌&&◌, List, ℕ, zero, suc, ltb, eqb, take}
-use Rattle.std.proofs.Math.Option.{Option, none, some}
+use Rattle.std.specs.Prelude.{Bool, true, false, ◌&&◌, List, ℕ, zero, suc, ltb, eqb, take, Option, Some, None}
 use Rattle.rules.specs.Settings.{Settings}
 use Rattle.rules.specs.Run.{earliest}
 use Rattle.buffer.specs.declared.SendBuffer.{SendBuffer}
@@ -16,11 +15,11 @@ use Rattle.run_choice.specs.declared.Rule.TheVariants as rule
 -- given the loss list's length, the packet due, whether the flow window is exceeded, any is unsent, the flush applies
 unfoldable pub rule_by : ℕ → Option ℕ → Bool → Bool → Bool → Rule
 rule_by (suc n) d over more last = rule.Loss
-rule_by zero (some i) over more last = rule.Due i
-rule_by zero none true more last = rule.Window
-rule_by zero none false true last = rule.Unsent
-rule_by zero none false false true = rule.Flush
-rule_by zero none false false false = rule.Input
+rule_by zero (Some i) over more last = rule.Due i
+rule_by zero None true more last = rule.Window
+rule_by zero None false true last = rule.Unsent
+rule_by zero None false false true = rule.Flush
+rule_by zero None false false false = rule.Input
 
 -- rule 3's choice, by its index from the front
 abbrev pub due_at : ℕ → SendBuffer → List ℕ → Option ℕ

@@ -12,12 +12,13 @@
 --   holding                                 the books with the flushed packet
 --   written                                 records written to the list, "24 bytes" each: "Bytes after the last record
 --                                           stay."
---   Acted, Acts                             the code did what a turn does
+--   HasRoom, SameList, Pushed               the lent list: its room, that it is the same one, a record written behind the others
+--   Acted, Wrote, Acts                      the code did what a turn does
 pub mod Laws
 pub mod Rules
 pub mod Stands
 pub mod Unsent
-use Rattle.std.specs.Prelude.{◌≡◌, Bool, true, false, ◌&&◌, cond, List, [], ◌∷◌, ◌++◌, ℕ, suc, ◌+◌, ◌-◌, ◌*◌, ◌%◌, min, ltb, eqb, length, take, get_or}
+use Rattle.std.specs.Prelude.{◌≡◌, Bool, true, false, ◌&&◌, cond, List, [], ◌∷◌, ◌++◌, ℕ, suc, ◌+◌, ◌-◌, ◌*◌, ◌%◌, ◌≤◌, min, ltb, eqb, length, take, get_or, Some}
 use Rattle.std.proofs.Math.Seq.{paste}
 use Rattle.rules_numbers.specs.declared.SeqNumber.{SeqNumber}
 use Rattle.rules_numbers.specs.Modular.{seqs, plus, dist}
@@ -30,10 +31,9 @@ use Rattle.rules.specs.Sender.{Packet, nothing, wire_sizes}
 use Rattle.rules.specs.Records.{Kind, Send, ByTime, ByLoss, Action, encode, send_record, drop_record, wait_input, wait_ack}
 use Rattle.rules.specs.Run.{wait}
 use Rattle.buffer.specs.declared.SendBuffer.{SendBuffer}
-use Rattle.buffer.specs.declared.Flushed.TheVariants.{Held}
-use Rattle.buffer.specs.State.{State, state, view, put, with_others}
+use Rattle.buffer.specs.State.{State, state, view, put, with_others, flushed_packet}
 use Rattle.buffer.specs.Removal.{removed}
-use Rattle.run_effects.specs.declared.Written.{Written}
+use Rattle.run_effects.specs.declared.Records.{Records}
 
 abbrev pub base_of : Rtt → ℕ
 base_of r = r.mean + 4 * r.variance + 20_000
@@ -126,7 +126,7 @@ unsent_turn now st =
 
 -- 6. "Draining with one packet buffered: send and remove it.": the byte count goes down, and the payload is held
 abbrev pub holding : SeqNumber → ℕ → ℕ → SendBuffer → SendBuffer
-holding number slot len b = with_others b b.rtt b.message b.expected (Held number slot len)
+holding number slot len b = with_others b b.rtt b.message b.expected (Some (flushed_packet number slot len))
 
 unfoldable pub flush_turn : Settings → State → Turned
 flush_turn c st =
@@ -152,6 +152,26 @@ pub record Acted (tn : State → Turned) (before : State) (n : ℕ) (out : List 
   pub count : m ≡ n + length (tn before).records
   pub list : left ≡ written n (tn before).records out
 
+-- there is room for k more records
+abbrev pub HasRoom : ℕ → Records → Type 0
+HasRoom k r = r.count * 24 + k * 24 ≤ length r.list.now
+
+-- the same lent list: what is written here stands where it was lent
+pub record SameList (a b : Records) : Type 0 where
+  pub name : b.list.ghost_name ≡ a.list.ghost_name
+  pub long : length b.list.now ≡ length a.list.now
+
+-- one record more; every other byte stays
+pub record Pushed (before : Records) (a : Action) (after : Records) : Type 0 where
+  pub same : SameList before after
+  pub count : after.count ≡ before.count + 1
+  pub list : after.list.now ≡ paste before.list.now (before.count * 24) (encode a) 24
+
+-- `Acted` with the lent list
+pub record Wrote (tn : State → Turned) (before : State) (given : Records) (after : State) (left : Records) : Type 0 where
+  pub acted : Acted tn before given.count given.list.now after left.count left.list.now
+  pub same : SameList given left
+
 -- the same for code that doesn't see the loss list's area
-pub record Acts (tn : State → Turned) (b : SendBuffer) (ring : List ℕ) (n : ℕ) (out : List ℕ) (w : Written) (words left : List ℕ) : Type 0 where
-  pub is : (lost : List ℕ) → Acted tn (state b ring lost) n out (state w.buffer words lost) w.count left
+pub record Acts (tn : State → Turned) (b : SendBuffer) (ring : List ℕ) (given : Records) (after : SendBuffer) (words : List ℕ) (left : Records) : Type 0 where
+  pub is : (lost : List ℕ) → Wrote tn (state b ring lost) given (state after words lost) left

@@ -1,12 +1,12 @@
 // Rule 5: document 01, "Send the next unsent. If the one after it has a number divisible by 16 and is buffered, send it
 // at once, also past budget and window."
-ghost use Rattle.std.specs.Prelude.{◌+◌, ◌*◌, ◌^◌, ◌≤◌, ◌<◌, length};
-ghost use Rattle.run_effects.specs.Sending.{Acts, next_turn, sixteen_turn, unsent_turn};
+ghost use Rattle.std.specs.Prelude.{◌^◌, ◌<◌};
+ghost use Rattle.run_effects.specs.Sending.{HasRoom, Acts, next_turn, sixteen_turn, unsent_turn};
 ghost use Rattle.run_effects.specs.Sending.Laws.{Sendable};
 ghost use Rattle.run_effects.specs.Sending.Rules.{Standing};
 ghost use Rattle.run_effects.specs.Sending.Unsent.{Sixteen};
 
-use crate::Written;
+use crate::Records;
 use crate::packet::send_packet;
 use action_records::Kind;
 use buffer::SendBuffer;
@@ -16,12 +16,11 @@ fn send_next_packet(
     b: SendBuffer,
     ts_now: u64,
     ring: &mut [u64],
-    out: &mut [u8],
-    n: usize,
-) -> Written
+    records: &mut Records,
+) -> SendBuffer
     requires sendable { Sendable b b.sent ts_now ring.old }
-    requires n_in_bounds { n * 24 + 24 ≤ length out.old }
-    ensures { Acts (next_turn ts_now) b ring.old n out.old result ring.new out.new }
+    requires room { HasRoom 1 records.old }
+    ensures { Acts (next_turn ts_now) b ring.old records.old result ring.new records.new }
 {
     send_packet(
         b,
@@ -30,8 +29,7 @@ fn send_next_packet(
         b.sent as usize,
         b.sent + 1,
         ring,
-        out,
-        n,
+        records,
     )
 }
 
@@ -40,23 +38,17 @@ fn send_next_16n_packet(
     b: SendBuffer,
     ts_now: u64,
     ring: &mut [u64],
-    out: &mut [u8],
-    n: usize,
-) -> Written
+    records: &mut Records,
+) -> SendBuffer
     requires sixteen { Sixteen b ts_now ring.old }
-    requires n_in_bounds { n * 24 + 24 ≤ length out.old }
-    ensures { Acts (sixteen_turn ts_now) b ring.old n out.old result ring.new out.new }
+    requires room { HasRoom 1 records.old }
+    ensures { Acts (sixteen_turn ts_now) b ring.old records.old result ring.new records.new }
 {
-    let at = b.ring;
-    let front = b.front;
-    let next = numbers::plus(front, b.sent);
-    if (next.0 % 16 == 0) & ((b.sent as usize) < at.len) {
-        return send_next_packet(b, ts_now, ring, out, n);
+    let next = numbers::plus(b.front, b.sent);
+    if (next.0 % 16 == 0) & ((b.sent as usize) < b.ring.len) {
+        return send_next_packet(b, ts_now, ring, records);
     }
-    Written {
-        buffer: b,
-        count: n,
-    }
+    b
 }
 
 // Does both, one after the other.
@@ -64,13 +56,12 @@ pub fn send_unsent(
     b: SendBuffer,
     ts_now: u64,
     ring: &mut [u64],
-    out: &mut [u8],
-    n: usize,
-) -> Written
+    records: &mut Records,
+) -> SendBuffer
     requires standing { Standing b ring.old }
-    requires sent_lt_len { (b.sent < b.ring.len) × (ts_now < 2 ^ 48) × (n * 24 + 48 ≤ length out.old) }
-    ensures { Acts (unsent_turn ts_now) b ring.old n out.old result ring.new out.new }
+    requires sent_lt_len { (b.sent < b.ring.len) × (ts_now < 2 ^ 48) × HasRoom 2 records.old }
+    ensures { Acts (unsent_turn ts_now) b ring.old records.old result ring.new records.new }
 {
-    let first = send_next_packet(b, ts_now, ring, out, n);
-    send_next_16n_packet(first.buffer, ts_now, ring, out, first.count)
+    let first = send_next_packet(b, ts_now, ring, records);
+    send_next_16n_packet(first, ts_now, ring, records)
 }

@@ -13,15 +13,11 @@
 --   done, done_by, message            an accepted message; the call
 pub mod Laws
 pub mod Stands
-use Rattle.std.specs.Prelude.{Bool, ◌||◌, List, ℕ, ◌+◌, ◌*◌, ◌^◌, ltb, leb, length}
+use Rattle.std.specs.Prelude.{Bool, ◌||◌, List, ℕ, ◌+◌, ◌*◌, ◌^◌, ltb, leb, length, Option, Some, None, Result, Ok, Err}
 use Rattle.rules_refusals.specs.declared.Refusal.TheVariants.{BadTime, TooLong, CountFull}
-use Rattle.rules_refusals.specs.declared.Verdict.{Verdict}
-use Rattle.rules_refusals.specs.declared.Verdict.TheVariants.{Accepted, Refused}
-use Rattle.rules_refusals.specs.Verdict.{when, answer}
+use Rattle.rules_refusals.specs.Verdict.{Verdict, accepted, when, answer}
 use Rattle.rules_packets.specs.Split.{count}
 use Rattle.rules_pacing.specs.declared.SenderCongestionControl.{SenderCongestionControl}
-use Rattle.rules_pacing.specs.declared.Paced.{Paced}
-use Rattle.rules_pacing.specs.declared.Paced.TheVariants as paced
 use Rattle.rules_pacing.specs.declared.LiveBandwidthMode.{LiveBandwidthMode}
 use Rattle.rules_pacing.specs.Kept as Pacing
 use Rattle.rules_pacing.specs.Pacing.{count_full, input}
@@ -33,20 +29,16 @@ use Rattle.buffer_push.specs.declared.Pushed.{Pushed}
 use Rattle.buffer_push.specs.Message as Message
 use Rattle.buffer_push.specs.Message.{Work, Pushing}
 use Rattle.sender.specs.declared.Sender.{Sender}
-use Rattle.sender.specs.declared.Made.{Made}
-use Rattle.sender.specs.declared.Made.TheVariants as start
-use Rattle.sender.specs.declared.NewPeriod.{NewPeriod}
-use Rattle.sender.specs.declared.NewPeriod.TheVariants as period
-use Rattle.sender.specs.declared.Messaged.{Messaged}
-use Rattle.sender.specs.declared.Messaged.TheVariants as messaged
 use Rattle.sender.specs.SenderAndAreas.{Books, state_of, rules_of, areas_short, store_short, judge}
+use Rattle.rules_refusals.specs.declared.Refusal.{Refusal}
+use Rattle.sender.specs.declared.Answer.{Answer}
 
 abbrev pub sender_of : Settings → SendBuffer → SenderCongestionControl → Sender
 sender_of c b p = record { settings = c; buffer = b; pacing = p }
 
 -- row 1, BadSetting: "a setting is outside its range"
-unfoldable pub made : Settings → LiveBandwidthMode → Made
-made c mode = answer start.Refused (new_verdict (settings_of c) mode) (start.Ready (sender_of c (fresh (settings_of c)) (Pacing.fresh mode)))
+unfoldable pub made : Settings → LiveBandwidthMode → Result Sender Refusal
+made c mode = answer Err (new_verdict (settings_of c) mode) (Ok (sender_of c (fresh (settings_of c)) (Pacing.fresh mode)))
 
 -- "byte count with the message's wire sizes is 2^62 or more; or packets or payload bytes since the last estimate ..
 -- pass 2^38"
@@ -58,11 +50,11 @@ count_is_full s now n =
 -- row 4, BadTime: "a time is at or over its limit"; row 5, TooLong: "message over 1,048,576 bytes"; row 6, CountFull
 unfoldable pub input_verdict : Sender → ℕ → ℕ → ℕ → Verdict
 input_verdict s time now n =
-    when (leb (2 ^ 48) time || leb (2 ^ 48) now) BadTime (when (ltb 1_048_576 n) TooLong (when (count_is_full s now n) CountFull Accepted))
+    when (leb (2 ^ 48) time || leb (2 ^ 48) now) BadTime (when (ltb 1_048_576 n) TooLong (when (count_is_full s now n) CountFull accepted))
 
 abbrev pub then : Verdict → Verdict → Verdict
-then Accepted v = v
-then (Refused r) v = Refused r
+then (Ok _) v = v
+then (Err r) v = Err r
 
 abbrev pub short_for : Books → ℕ → Bool
 short_for g store = areas_short (rules_of g) (length g.ring) (length g.lost) || store_short (rules_of g) store
@@ -73,22 +65,21 @@ judge_with_store g store = judge (short_for g store) g
 unfoldable pub message_verdict : Books → ℕ → ℕ → ℕ → ℕ → Verdict
 message_verdict g time now n store = then (judge_with_store g store) (input_verdict g.sender time now n)
 
-abbrev pub messaged_by : Settings → Pushed → SenderCongestionControl → NewPeriod → Messaged
-messaged_by c p q n = messaged.Done (sender_of c p.buffer q) (record { made = p.made; removed = p.removed; bytes = p.bytes; period = n })
+abbrev pub messaged_by : Settings → Pushed → SenderCongestionControl → Option ℕ → Result (Sender × Answer) Refusal
+messaged_by c p q n = Ok (sender_of c p.buffer q, record { made = p.made; removed = p.removed; bytes = p.bytes; period = n })
 
 -- "Answer: packets made, packets removed, wire bytes removed .., and any new period."
-abbrev pub finished : Settings → Pushed → Paced → Messaged
-finished c p (paced.Silent q) = messaged_by c p q period.None
-finished c p (paced.Period n q) = messaged_by c p q (period.Set n)
-finished c p (paced.Refused r) = messaged.Refused r
+abbrev pub finished : Settings → Pushed → Result (Option ℕ × SenderCongestionControl) Refusal → Result (Sender × Answer) Refusal
+finished c p (Ok (n, q)) = messaged_by c p q n
+finished c p (Err r) = Err r
 
 pub record Messages : Type 0 where
-  pub answer : Messaged
+  pub answer : Result (Sender × Answer) Refusal
   pub ring : List ℕ
   pub lost : List ℕ
   pub store : List ℕ
 
-abbrev pub area : Messaged → List ℕ → List ℕ → List ℕ → Messages
+abbrev pub area : Result (Sender × Answer) Refusal → List ℕ → List ℕ → List ℕ → Messages
 area answer ring lost store = record { answer = answer; ring = ring; lost = lost; store = store }
 
 abbrev pub pushed_of : Work → Pushed
@@ -104,5 +95,5 @@ done g time now payload store = done_by g.sender now (length payload) (Message.m
 
 unfoldable pub message : Books → ℕ → ℕ → List ℕ → List ℕ → Messages
 message g time now payload store =
-    answer (λ r. area (messaged.Refused r) g.ring g.lost store) (message_verdict g time now (length payload) (length store))
+    answer (λ r. area (Err r) g.ring g.lost store) (message_verdict g time now (length payload) (length store))
     (done g time now payload store)

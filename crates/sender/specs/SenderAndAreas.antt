@@ -12,9 +12,7 @@ pub mod Laws
 pub mod Stands
 use Rattle.std.specs.Prelude.{Bool, not, ◌&&◌, ◌||◌, List, ℕ, ◌*◌, ltb, length}
 use Rattle.rules_refusals.specs.declared.Refusal.TheVariants.{BadStore, BadState}
-use Rattle.rules_refusals.specs.declared.Verdict.{Verdict}
-use Rattle.rules_refusals.specs.declared.Verdict.TheVariants.{Accepted}
-use Rattle.rules_refusals.specs.Verdict.{when}
+use Rattle.rules_refusals.specs.Verdict.{Verdict, accepted, when}
 use Rattle.rules_pacing.specs.Kept as Pacing
 use Rattle.rules.specs.Settings.{Settings, in_range, capacity, store_size}
 use Rattle.buffer.specs.State.{State, state, settings_of}
@@ -45,7 +43,7 @@ unfoldable pub kept : Books → Bool
 kept g = Buffer.kept (rules_of g) (state_of g) && Pacing.kept g.sender.pacing
 
 unfoldable pub judge : Bool → Books → Verdict
-judge short g = when short BadStore (when (not (kept g)) BadState Accepted)
+judge short g = when short BadStore (when (not (kept g)) BadState accepted)
 
 abbrev pub judge_areas : Books → Verdict
 judge_areas g = judge (areas_short (rules_of g) (length g.ring) (length g.lost)) g

@@ -1,58 +1,31 @@
 // An ACK.
-use crate::show;
-use buffer_ack::{AckAction, AckRtt, FullAck};
+use crate::Areas;
+use crate::show::{OrDash, Refused};
 use rules_numbers::Rtt;
-use sender::{Acknowledged, Sender};
+use sender::Sender;
 use std::io;
 use stored::{Record, low};
 
-fn full(there: bool, n: u32) -> FullAck {
-    if there {
-        FullAck::Number(n)
-    } else {
-        FullAck::None
-    }
-}
-
-fn rtt(there: bool, mean: u32, variance: u32) -> AckRtt {
-    if there {
-        AckRtt::Measured(Rtt { mean, variance })
-    } else {
-        AckRtt::None
-    }
-}
-
-fn show_full(rt: &impl Print, f: FullAck) -> io::Result<()> {
-    match f {
-        FullAck::None => show::text(rt, " full -"),
-        FullAck::Number(n) => show::decimal(rt, " full", n as u64),
-    }
-}
-
-fn show_action(rt: &impl Print, a: AckAction) -> io::Result<()> {
-    let send_ack2 = a.send_ack2;
-    show::decimal(rt, "received", a.received as u64)?;
-    show::decimal(rt, " recovered", a.recovered as u64)?;
-    show_full(rt, send_ack2)
-}
-
-pub(crate) fn call(
-    rt: &impl Print,
-    s: Sender,
-    r: Record,
-    ring: &[u64],
-    lost: &mut [u32],
-) -> io::Result<Sender> {
-    let full_ack = full(r.b == 1, low(r.c));
-    let brought = rtt(r.d == 1, low(r.e), low(r.f));
-    match s.ack(low(r.a), full_ack, brought, ring, lost) {
-        Acknowledged::Refused(t, why) => {
-            show::refused(rt, why)?;
-            Ok(t)
+pub(crate) fn call(rt: &impl Print, s: &mut Sender, r: Record, areas: &Areas) -> io::Result<()> {
+    let full = (r.b == 1).then_some(low(r.c));
+    let rtt = (r.d == 1).then_some(Rtt {
+        mean: low(r.e),
+        variance: low(r.f),
+    });
+    match s.ack(low(r.a), full, rtt, &areas.ring, &areas.lost) {
+        // Not `answered`: a refused ACK may change the sender too.
+        Err((t, why)) => {
+            *s = t;
+            print!(rt; "{}", Refused(why))
         }
-        Acknowledged::Done(t, a) => {
-            show_action(rt, a)?;
-            Ok(t)
+        Ok((t, a)) => {
+            *s = t;
+            print!(rt;
+                "received {} recovered {} full {}",
+                a.received,
+                a.recovered,
+                OrDash(a.send_ack2)
+            )
         }
     }
 }

@@ -1,17 +1,14 @@
 // A loss report of up to ten words.
-ghost use Rattle.std.specs.Prelude.{◌≤◌};
-
-use crate::show;
-use nak::Reported;
+use crate::Areas;
+use crate::show::answered;
 use sender::Sender;
 use std::io;
 use stored::{Record, at_most, high, low};
 
 const WORDS_MOST: usize = 10;
 
-const RUNS_MOST: usize = 30;
-
-fn words(r: Record) -> [u32; 10] {
+// Not a `From`: neither type is this crate's.
+fn words(r: Record) -> [u32; WORDS_MOST] {
     [
         low(r.b),
         high(r.b),
@@ -26,99 +23,45 @@ fn words(r: Record) -> [u32; 10] {
     ]
 }
 
-fn show_run(rt: &impl Print, kind: u32, first: u32, end: u32) -> io::Result<()> {
-    match kind {
-        1 => show::decimal(rt, "\n  added", first as u64)?,
-        2 => show::decimal(rt, "\n  ignored", first as u64)?,
-        _ => show::decimal(rt, "\n  dropped", first as u64)?,
-    }
-    show::decimal(rt, "", end as u64)
-}
-
-// The run whose three words stand at `at`.
-fn show_at(rt: &impl Print, out: &[u32], at: usize) -> io::Result<()> {
-    if out.len() < 3 {
-        return Ok(());
-    }
-    if out.len() - 3 < at {
-        return Ok(());
-    }
-    show_run(rt, out[at], out[at + 1], out[at + 2])
-}
-
-fn show_runs(rt: &impl Print, out: &[u32], n: usize) -> io::Result<()>
-    requires { n ≤ 30 }
-{
-    for k in 0..n {
-        show_at(rt, out, k * 3)?;
-    }
-    Ok(())
-}
-
-// The first words, all where there are no more.
-fn first(words: &[u32], n: usize) -> &[u32] {
-    if words.len() < n {
-        return words;
-    }
-    let start = 0;
-    &words[start..n]
+// A run's kind, which is a number in C's list, its first number and its end.
+fn show_run(rt: &impl Print, run: [u32; 3]) -> io::Result<()> {
+    let [kind, first, end] = run;
+    let name = match kind {
+        1 => "added",
+        2 => "ignored",
+        _ => "dropped",
+    };
+    print!(rt; "\n  {name} {first} {end}")
 }
 
 fn report(
     rt: &impl Print,
-    s: Sender,
+    s: &mut Sender,
     words: &[u32],
-    ring: &[u64],
-    lost: &mut [u32],
+    areas: &mut Areas,
     out: &mut [u32],
-) -> io::Result<Sender> {
-    match nak::nak(s, words, ring, lost, out) {
-        Reported::Refused(why) => {
-            show::refused(rt, why)?;
-            Ok(s)
-        }
-        Reported::Done(t, runs) => {
-            show::decimal(rt, "runs", runs as u64)?;
-            show_runs(rt, out, at_most(runs as u64, RUNS_MOST))?;
-            Ok(t)
+) -> io::Result<()> {
+    let answer = nak::nak(*s, words, &areas.ring, &mut areas.lost, out);
+    if let Some((t, runs)) = answered(rt, answer)? {
+        *s = t;
+        print!(rt; "runs {runs}")?;
+        let (given, _) = out.as_chunks::<3>();
+        for run in given.iter().take(runs) {
+            show_run(rt, *run)?;
         }
     }
-}
-
-fn tight(
-    rt: &impl Print,
-    s: Sender,
-    words: &[u32],
-    ring: &[u64],
-    lost: &mut [u32],
-) -> io::Result<Sender> {
-    let mut out = [0u32; 6];
-    report(rt, s, words, ring, lost, &mut out)
-}
-
-fn ample(
-    rt: &impl Print,
-    s: Sender,
-    words: &[u32],
-    ring: &[u64],
-    lost: &mut [u32],
-) -> io::Result<Sender> {
-    let mut out = [0u32; 90];
-    report(rt, s, words, ring, lost, &mut out)
+    Ok(())
 }
 
 // There is room for 30 runs, or for two.
 pub(crate) fn call(
     rt: &impl Print,
-    s: Sender,
+    s: &mut Sender,
     r: Record,
-    ring: &[u64],
-    lost: &mut [u32],
-) -> io::Result<Sender> {
-    let all = words(r);
-    let given = first(&all, at_most(r.a, WORDS_MOST));
-    if r.g == 1 {
-        return tight(rt, s, given, ring, lost);
-    }
-    ample(rt, s, given, ring, lost)
+    areas: &mut Areas,
+) -> io::Result<()> {
+    let given = at_most(r.a, WORDS_MOST);
+    let room = if r.g == 1 { 6 } else { 90 };
+    let mut out = [0u32; 90];
+    report(rt, s, &words(r)[..given], areas, &mut out[..room])
 }

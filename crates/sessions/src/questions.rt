@@ -1,39 +1,31 @@
 // The reports, and a payload.
-use crate::show;
-use payload::Found;
-use reports::{BufferReports, Told};
+use crate::Areas;
+use crate::show::{Hex, answered};
 use sender::Sender;
 use std::io;
 
-fn show_reports(rt: &impl Print, b: BufferReports) -> io::Result<()> {
-    show::flag(rt, "flushed", b.is_flushed)?;
-    show::flag(rt, " to_send", b.has_packets_to_send)?;
-    show::decimal(rt, " packets", b.len as u64)?;
-    show::decimal(rt, " bytes", b.len_bytes)?;
-    show::decimal(rt, " time", b.duration)
+pub(crate) fn reports(rt: &impl Print, s: &Sender, areas: &Areas) -> io::Result<()> {
+    if let Some(b) = answered(rt, reports::reports(*s, &areas.ring, &areas.lost))? {
+        print!(rt;
+            "flushed {} to_send {}",
+            u8::from(b.is_flushed),
+            u8::from(b.has_packets_to_send)
+        )?;
+        print!(rt;
+            " packets {} bytes {} time {}",
+            b.len, b.len_bytes, b.duration
+        )?;
+    }
+    Ok(())
 }
 
-pub(crate) fn reports(rt: &impl Print, s: Sender, ring: &[u64], lost: &[u32]) -> io::Result<()> {
-    match reports::reports(s, ring, lost) {
-        Told::Refused(why) => show::refused(rt, why),
-        Told::Known(b) => show_reports(rt, b),
+pub(crate) fn payload(rt: &impl Print, s: &Sender, number: u32, areas: &Areas) -> io::Result<()> {
+    let answer = payload::payload(*s, number, &areas.ring, &areas.lost, &areas.store);
+    if let Some(lies) = answered(rt, answer)? {
+        // `get`, since sessions doesn't show that they are all there.
+        let end = lies.place.saturating_add(lies.len);
+        let payload = areas.store.get(lies.place..end).unwrap_or(&[]);
+        print!(rt; "payload {} {}", lies.len, Hex(payload))?;
     }
-}
-
-pub(crate) fn payload(
-    rt: &impl Print,
-    s: Sender,
-    number: u32,
-    ring: &[u64],
-    lost: &[u32],
-    store: &[u8],
-) -> io::Result<()> {
-    match payload::payload(s, number, ring, lost, store) {
-        Found::Refused(why) => show::refused(rt, why),
-        Found::Held(lies) => {
-            show::decimal(rt, "payload", lies.len as u64)?;
-            show::text(rt, " ")?;
-            show::part(rt, store, lies.place, lies.len)
-        }
-    }
+    Ok(())
 }

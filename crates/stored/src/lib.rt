@@ -2,9 +2,13 @@
 // others its arguments.
 #![tactic(auto)]
 
-ghost use Rattle.std.specs.Prelude.{◌≡◌, ◌≤◌, ◌%◌, ◌/◌, ◌^◌, min};
-ghost use Rattle.stored.specs.Stored.{number, call};
+ghost use Rattle.std.specs.Prelude.{◌≡◌, ◌≤◌, ◌%◌, ◌/◌, ◌^◌, min, IfOk, IfSome};
+ghost use Rattle.stored.specs.Stored.{number, call, Takes};
 
+use std::io;
+use std::io::{ErrorKind, Read};
+
+// The operation stays a number, since `read` promises it; each program has its own enum of operations.
 #[derive(Clone, Copy)]
 pub struct Record {
     pub operation: u64,
@@ -17,6 +21,7 @@ pub struct Record {
     pub g: u64,
 }
 
+// A place in a fixed array: eight sub-slices would be no plainer.
 fn number(bytes: &[u8; 64], at: usize) -> u64
     requires { at ≤ 56 }
     ensures { result ≡ number bytes.now at }
@@ -40,7 +45,20 @@ pub fn read(bytes: &[u8; 64]) -> Record
     }
 }
 
-// The low 32 bits of an argument, and the high ones.
+// The next call of an input; none where fewer than 64 bytes are left of it. Only of a call is anything promised: the library
+// says nothing of a read that fails.
+pub fn next<R: Read>(input: &mut R) -> io::Result<Option<Record>>
+    ensures { IfOk result (λ o. IfSome o (λ r. Takes (R.remaining input.old) (R.remaining input.new) r)) }
+{
+    let mut bytes = [0u8; 64];
+    match input.read_exact(&mut bytes) {
+        Ok(()) => Ok(Some(read(&bytes))),
+        Err(e) if e.kind() == ErrorKind::UnexpectedEof => Ok(None),
+        Err(e) => Err(e),
+    }
+}
+
+// The low 32 bits of an argument, and the high ones. The remainder stands, since `as` must lose nothing.
 pub fn low(n: u64) -> u32
     ensures { result ≡ n % 2 ^ 32 }
 {
@@ -57,8 +75,5 @@ pub fn high(n: u64) -> u32
 pub fn at_most(n: u64, most: usize) -> usize
     ensures { result ≡ min n most }
 {
-    if n < most as u64 {
-        return n as usize;
-    }
-    most
+    n.min(most as u64) as usize
 }

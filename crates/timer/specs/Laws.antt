@@ -1,5 +1,4 @@
 -- What the code and the layers above use of a timer.
---   Held n r                 r is n held at 2^32 − 1, with the bounds that follow
 --   Kept t                   the book rules of a timer as facts
 --   kept_facts, facts_kept   the test decides them, both ways
 --   periods-within           the origin moves by no more than the time elapsed
@@ -11,11 +10,6 @@ use Rattle.laws.specs.Choice.{cond-by}
 use Rattle.rules_timers.specs.declared.Timer.{Timer}
 use Rattle.rules_timers.specs.declared.Ticked.{Ticked}
 use Rattle.rules_timers.specs.Timer.{instant_limit, longest, most, kept, periods, ticked}
-
-pub record Held (n r : ℕ) : Type 0 where
-  pub is : r ≡ min most n
-  pub within : r ≤ n
-  pub small : r ≤ most
 
 pub record Kept (t : Timer) : Type 0 where
   pub origin : t.last < instant_limit

@@ -1,56 +1,31 @@
 // One timer: document 01, "Timers"; the Rust's time/timer.rs.
 #![tactic(auto)]
 
-ghost use Rattle.std.specs.Prelude.{◌≡◌, max};
-ghost use Rattle.rules_timers.specs.Timer.{shortest_new, kept, started, made, period_of, next_instant, reset, set_period, ticked, check_expired};
-ghost use Rattle.timer.specs.Laws.{Held};
+ghost use Rattle.std.specs.Prelude.{◌≡◌};
+ghost use Rattle.rules_timers.specs.Timer.{kept, started, made, period_of, next_instant, reset, set_period, ticked, check_expired};
 
 use rules_refusals::Refusal;
-use rules_timers::{
-    Elapsed, INSTANT_LIMIT, NEW_PERIOD_LEAST, Nanoseconds, PERIOD_MOST, Ticked, Timer,
-    TimerChecked, TimerSet,
-};
+use rules_timers::{INSTANT_LIMIT, NEW_PERIOD_LEAST, PERIOD_MOST, Ticked, Timer};
 
-// A check reports at most 2^32 − 1 periods.
-fn held(periods: u64) -> u64
-    ensures { Held periods result }
-{
-    if periods <= 0xffff_ffff {
-        periods
-    } else {
-        0xffff_ffff
-    }
-}
-
-// A new timer's period: if too short it is raised, not refused.
-fn at_least(period: u64) -> u64
-    ensures { result ≡ max shortest_new period }
-{
-    if period < NEW_PERIOD_LEAST {
-        NEW_PERIOD_LEAST
-    } else {
-        period
-    }
-}
-
-pub fn new(now: u64, period: u64) -> TimerSet
+#[tactic(auto, unfolding(rules_timers::specs::Timer::made))]
+pub fn new(now: u64, period: u64) -> Result<Timer, Refusal>
     ensures { result ≡ made now period }
 {
     if PERIOD_MOST < period {
-        return TimerSet::Refused(Refusal::BadSetting);
+        return Err(Refusal::BadSetting);
     }
     if INSTANT_LIMIT <= now {
-        return TimerSet::Refused(Refusal::BadTime);
+        return Err(Refusal::BadTime);
     }
-    TimerSet::Done(started(now, period))
+    Ok(started(now, period))
 }
 
-// A new timer from any numbers, untested.
+// A new timer from any numbers, untested. If the period is too short it is raised, not refused.
 pub fn started(now: u64, period: u64) -> Timer
     ensures { result ≡ started now period }
 {
     Timer {
-        period: at_least(period),
+        period: period.max(NEW_PERIOD_LEAST),
         last: now,
     }
 }
@@ -62,97 +37,91 @@ pub fn kept(t: Timer) -> bool
     t.last < INSTANT_LIMIT && t.period <= PERIOD_MOST
 }
 
-pub fn period(t: Timer) -> Nanoseconds
+// Each call by its own name, as document 01 and docs/ have them.
+#[tactic(auto, unfolding(rules_timers::specs::Timer::period_of))]
+pub fn period(t: Timer) -> Result<u64, Refusal>
     ensures { result ≡ period_of t }
 {
     if !kept(t) {
-        return Nanoseconds::Refused(Refusal::BadState);
+        return Err(Refusal::BadState);
     }
-    Nanoseconds::Are(t.period)
+    Ok(t.period)
 }
 
-pub fn next_instant(t: Timer) -> Nanoseconds
+#[tactic(auto, unfolding(rules_timers::specs::Timer::next_instant))]
+pub fn next_instant(t: Timer) -> Result<u64, Refusal>
     ensures { result ≡ next_instant t }
 {
     if !kept(t) {
-        return Nanoseconds::Refused(Refusal::BadState);
+        return Err(Refusal::BadState);
     }
-    Nanoseconds::Are(t.last + t.period)
+    Ok(t.last + t.period)
 }
 
-pub fn reset(t: Timer, now: u64) -> TimerSet
+#[tactic(auto, unfolding(rules_timers::specs::Timer::reset))]
+pub fn reset(t: Timer, now: u64) -> Result<Timer, Refusal>
     ensures { result ≡ reset t now }
 {
     if !kept(t) {
-        return TimerSet::Refused(Refusal::BadState);
+        return Err(Refusal::BadState);
     }
     if INSTANT_LIMIT <= now {
-        return TimerSet::Refused(Refusal::BadTime);
+        return Err(Refusal::BadTime);
     }
-    TimerSet::Done(Timer {
-        period: t.period,
-        last: now,
-    })
+    Ok(Timer { last: now, ..t })
 }
 
-pub fn set_period(t: Timer, period: u64) -> TimerSet
+#[tactic(auto, unfolding(rules_timers::specs::Timer::set_period))]
+pub fn set_period(t: Timer, period: u64) -> Result<Timer, Refusal>
     ensures { result ≡ set_period t period }
 {
     if PERIOD_MOST < period {
-        return TimerSet::Refused(Refusal::BadSetting);
+        return Err(Refusal::BadSetting);
     }
     if !kept(t) {
-        return TimerSet::Refused(Refusal::BadState);
+        return Err(Refusal::BadState);
     }
-    TimerSet::Done(Timer {
-        period: period,
-        last: t.last,
-    })
+    Ok(Timer { period, ..t })
 }
 
 // A check at `now`, of any timer: "always answers 1 and doesn't move", or nothing "before origin + period", or
 // "floor(elapsed / period), held at 2^32 − 1, and the origin moves by that many periods".
+#[tactic(auto, unfolding(rules_timers::specs::Timer::ticked, rules_timers::specs::Timer::periods))]
 pub fn tick(t: Timer, now: u64) -> Ticked
     ensures { result ≡ ticked t now }
 {
-    let period = t.period;
-    let last = t.last;
-    if period == 0 {
+    if t.period == 0 {
         return Ticked {
-            elapsed: Elapsed::Periods(1),
+            elapsed: Some(1),
             timer: t,
         };
     }
-    if now < last {
+    let elapsed = now.saturating_sub(t.last);
+    if elapsed < t.period {
         return Ticked {
-            elapsed: Elapsed::Nothing,
+            elapsed: None,
             timer: t,
         };
     }
-    if now - last < period {
-        return Ticked {
-            elapsed: Elapsed::Nothing,
-            timer: t,
-        };
-    }
-    let n = held((now - last) / period);
+    let n = (elapsed / t.period).min(u32::MAX as u64);
     Ticked {
-        elapsed: Elapsed::Periods(n as u32),
+        elapsed: Some(n as u32),
         timer: Timer {
-            period: period,
-            last: last + n * period,
+            last: t.last + n * t.period,
+            ..t
         },
     }
 }
 
-pub fn check_expired(t: Timer, now: u64) -> TimerChecked
+#[tactic(auto, unfolding(rules_timers::specs::Timer::check_expired))]
+pub fn check_expired(t: Timer, now: u64) -> Result<Ticked, Refusal>
     ensures { result ≡ check_expired t now }
 {
     if !kept(t) {
-        return TimerChecked::Refused(Refusal::BadState);
+        return Err(Refusal::BadState);
     }
     if INSTANT_LIMIT <= now {
-        return TimerChecked::Refused(Refusal::BadTime);
+        return Err(Refusal::BadTime);
     }
-    TimerChecked::Done(tick(t, now))
+    Ok(tick(t, now))
 }

@@ -8,9 +8,7 @@ use Rattle.std.proofs.Math.Bool.{and-eq-true_iff}
 use Rattle.std.proofs.Common.{leb-true, leb-false, le-leb}
 use Rattle.std.proofs.lemmas.Bool.{not-false}
 use Rattle.rules_refusals.specs.declared.Refusal.TheVariants.{BadState, BadTime, BadRtt}
-use Rattle.rules_refusals.specs.declared.Verdict.{Verdict}
-use Rattle.rules_refusals.specs.declared.Verdict.TheVariants.{Accepted}
-use Rattle.rules_refusals.specs.Verdict.{when}
+use Rattle.rules_refusals.specs.Verdict.{Verdict, accepted, when}
 use Rattle.refusals.specs.Laws.{when-accepted}
 use Rattle.rules_numbers.specs.declared.Rtt.{Rtt}
 use Rattle.rules_numbers.specs.Rtt.{in_range, Ranged}
@@ -64,17 +62,17 @@ all-kept ts k =
     )
 
 -- a call that wasn't refused for its timers has timers that keep the rules
-pub accepted-kept : (ts : Timers) (v : Verdict) → when (not (kept_all ts)) BadState v ≡ Accepted → KeptAll ts
+pub accepted-kept : (ts : Timers) (v : Verdict) → when (not (kept_all ts)) BadState v ≡ accepted → KeptAll ts
 accepted-kept ts v e = kept-all ts (not-false _ (when-accepted (not (kept_all ts)) BadState v e).0)
 
-pub accepted_timed : (ts : Timers) (now : ℕ) → judge ts now ≡ Accepted → KeptAll ts × (now < instant_limit)
+pub accepted_timed : (ts : Timers) (now : ℕ) → judge ts now ≡ accepted → KeptAll ts × (now < instant_limit)
 unfolding judge
 accepted_timed ts now e =
-    let rest = (when-accepted (not (kept_all ts)) BadState (when (leb instant_limit now) BadTime Accepted) e).1 in
-    (accepted-kept ts _ e, leb-false instant_limit now (when-accepted (leb instant_limit now) BadTime Accepted rest).0)
+    let rest = (when-accepted (not (kept_all ts)) BadState (when (leb instant_limit now) BadTime accepted) e).1 in
+    (accepted-kept ts _ e, leb-false instant_limit now (when-accepted (leb instant_limit now) BadTime accepted rest).0)
 
-pub accepted-ranged : (ts : Timers) (rtt : Rtt) → judge_rtt ts rtt ≡ Accepted → Ranged rtt
+pub accepted-ranged : (ts : Timers) (rtt : Rtt) → judge_rtt ts rtt ≡ accepted → Ranged rtt
 unfolding judge_rtt
 accepted-ranged ts rtt e =
-    let rest = (when-accepted (not (kept_all ts)) BadState (when (not (in_range rtt)) BadRtt Accepted) e).1 in
-    in_range-ranged rtt (not-false _ (when-accepted (not (in_range rtt)) BadRtt Accepted rest).0)
+    let rest = (when-accepted (not (kept_all ts)) BadState (when (not (in_range rtt)) BadRtt accepted) e).1 in
+    in_range-ranged rtt (not-false _ (when-accepted (not (in_range rtt)) BadRtt accepted rest).0)

@@ -2,27 +2,25 @@
 --   Ordered v ts    the verdict v is that of the tests ts, and they stand in the order
 --   ordered-first   so no test that holds has a refusal that stands before the one that is told
 --   judge-ordered, new-ordered, period-ordered, rtt-ordered, next-ordered   the calls' verdicts
-use Rattle.std.specs.Prelude.{◌≡◌, refl, true, not, ◌||◌, List, [], ◌∷◌, ℕ, ◌≤◌, ltb, leb}
+use Rattle.std.specs.Prelude.{◌≡◌, refl, true, not, ◌||◌, List, [], ◌∷◌, ℕ, ◌≤◌, ltb, leb, Option, Err}
 use Rattle.std.proofs.Common.{sym, ◌∙◌}
 use Rattle.rules_numbers.specs.declared.Rtt.{Rtt}
 use Rattle.rules_numbers.specs.Rtt.{in_range}
 use Rattle.rules_refusals.specs.declared.Refusal.{Refusal}
 use Rattle.rules_refusals.specs.declared.Refusal.TheVariants.{BadSetting, BadState, BadTime, BadRtt}
-use Rattle.rules_refusals.specs.declared.Verdict.{Verdict}
-use Rattle.rules_refusals.specs.declared.Verdict.TheVariants.{Refused}
 use Rattle.rules_refusals.specs.Order.{Test, test, order, place_in, place, first_of, none_before, in_order}
 use Rattle.refusals.specs.Order.{Each, first-least}
 use Rattle.rules_timers.specs.declared.Timers.{Timers}
-use Rattle.rules_timers.specs.declared.NextMessage.{NextMessage}
 use Rattle.rules_timers.specs.Timer.{instant_limit, longest}
 use Rattle.rules_timers.specs.Timers.{kept_all, judge, judge_new, judge_period, judge_rtt}
 use Rattle.rules_timers.specs.Wake.{too_late, judge_next}
+use Rattle.rules_refusals.specs.Verdict.{Verdict}
 
 pub record Ordered (v : Verdict) (ts : List Test) : Type 0 where
   pub decided : v ≡ first_of ts
   pub ordered : in_order ts ≡ true
 
-pub ordered-first : (v : Verdict) (ts : List Test) (r : Refusal) → Ordered v ts → v ≡ Refused r
+pub ordered-first : (v : Verdict) (ts : List Test) (r : Refusal) → Ordered v ts → v ≡ Err r
     → Each (λ (t : Test). t.holds ≡ true → place r ≤ place t.refusal) ts
 ordered-first v ts r o e = first-least ts r o.ordered (sym o.decided ∙ e)
 
@@ -44,7 +42,7 @@ pub rtt-ordered : (ts : Timers) (rtt : Rtt) → Ordered (judge_rtt ts rtt) (test
 unfolding judge_rtt first_of in_order none_before place place_in order
 rtt-ordered ts rtt = record { decided = refl; ordered = refl }
 
-pub next-ordered : (ts : Timers) (now : ℕ) (message : NextMessage)
+pub next-ordered : (ts : Timers) (now : ℕ) (message : Option ℕ)
     → Ordered (judge_next ts now message) (test (not (kept_all ts)) BadState ∷ test (leb instant_limit now || too_late message) BadTime ∷ [])
 unfolding judge_next first_of in_order none_before place place_in order
 next-ordered ts now message = record { decided = refl; ordered = refl }

@@ -1,5 +1,5 @@
 // The timers of a sender, made and set: document 01, "Timers"; the Rust's time/mod.rs. Times are nanoseconds,
-// round-trip times microseconds.
+// round-trip times microseconds. The time is a call's, no part of the timers, so it is a parameter beside them.
 #![tactic(auto)]
 
 ghost use Rattle.std.specs.Prelude.{◌≡◌};
@@ -7,28 +7,28 @@ ghost use Rattle.rules_timers.specs.Timers.{kept_all, judge, judge_new, judge_pe
 
 use rtt_periods::calculate_periods;
 use rules_numbers::Rtt;
-use rules_refusals::{Refusal, Verdict};
-use rules_timers::{Timers, TimersSet};
+use rules_refusals::Refusal;
+use rules_timers::{INSTANT_LIMIT, PERIOD_MOST, Timers};
 
-fn judge_new(now: u64, statistics: u64, idle: u64) -> Verdict
+#[tactic(auto, unfolding(rules_timers::specs::Timers::judge_new))]
+fn judge_new(now: u64, statistics: u64, idle: u64) -> Result<(), Refusal>
     ensures { result ≡ judge_new now statistics idle }
 {
-    let late = refusals::when(
-        rules_timers::INSTANT_LIMIT <= now,
-        Refusal::BadTime,
-        Verdict::Accepted,
-    );
-    let long = (rules_timers::PERIOD_MOST < statistics) | (rules_timers::PERIOD_MOST < idle);
-    refusals::when(long, Refusal::BadSetting, late)
+    if PERIOD_MOST < statistics || PERIOD_MOST < idle {
+        return Err(Refusal::BadSetting);
+    }
+    if INSTANT_LIMIT <= now {
+        return Err(Refusal::BadTime);
+    }
+    Ok(())
 }
 
-pub fn new(now: u64, statistics_interval: u64, peer_idle_timeout: u64) -> TimersSet
+#[tactic(auto, unfolding(rules_timers::specs::Timers::new))]
+pub fn new(now: u64, statistics_interval: u64, peer_idle_timeout: u64) -> Result<Timers, Refusal>
     ensures { result ≡ new now statistics_interval peer_idle_timeout }
 {
-    match judge_new(now, statistics_interval, peer_idle_timeout) {
-        Verdict::Refused(r) => TimersSet::Refused(r),
-        Verdict::Accepted => TimersSet::Done(begun(now, statistics_interval, peer_idle_timeout)),
-    }
+    judge_new(now, statistics_interval, peer_idle_timeout)?;
+    Ok(begun(now, statistics_interval, peer_idle_timeout))
 }
 
 // New timers from any numbers, untested.
@@ -51,89 +51,86 @@ fn begun(now: u64, statistics_interval: u64, peer_idle_timeout: u64) -> Timers
 pub fn kept(ts: Timers) -> bool
     ensures { result ≡ kept_all ts }
 {
-    let snd = ts.snd;
-    let full_ack = ts.full_ack;
-    let nak = ts.nak;
-    let exp = ts.exp;
-    let peer_idle = ts.peer_idle;
-    let statistics = ts.statistics;
-    timer::kept(snd)
-        & (timer::kept(full_ack)
-            & (timer::kept(nak)
-                & (timer::kept(exp)
-                    & (timer::kept(peer_idle) & (timer::kept(statistics) & (1 <= ts.exp_count))))))
+    timer::kept(ts.snd)
+        && timer::kept(ts.full_ack)
+        && timer::kept(ts.nak)
+        && timer::kept(ts.exp)
+        && timer::kept(ts.peer_idle)
+        && timer::kept(ts.statistics)
+        && 1 <= ts.exp_count
 }
 
 // Refusals 3 and 4, which most calls share.
-pub fn judge(ts: Timers, now: u64) -> Verdict
+#[tactic(auto, unfolding(rules_timers::specs::Timers::judge))]
+pub fn judge(ts: Timers, now: u64) -> Result<(), Refusal>
     ensures { result ≡ judge ts now }
 {
-    let late = refusals::when(
-        rules_timers::INSTANT_LIMIT <= now,
-        Refusal::BadTime,
-        Verdict::Accepted,
-    );
-    refusals::when(!kept(ts), Refusal::BadState, late)
+    if !kept(ts) {
+        return Err(Refusal::BadState);
+    }
+    if INSTANT_LIMIT <= now {
+        return Err(Refusal::BadTime);
+    }
+    Ok(())
 }
 
-fn judge_period(ts: Timers, period: u64) -> Verdict
+#[tactic(auto, unfolding(rules_timers::specs::Timers::judge_period))]
+fn judge_period(ts: Timers, period: u64) -> Result<(), Refusal>
     ensures { result ≡ judge_period ts period }
 {
-    let state = refusals::when(!kept(ts), Refusal::BadState, Verdict::Accepted);
-    refusals::when(
-        rules_timers::PERIOD_MOST < period,
-        Refusal::BadSetting,
-        state,
-    )
+    if PERIOD_MOST < period {
+        return Err(Refusal::BadSetting);
+    }
+    if !kept(ts) {
+        return Err(Refusal::BadState);
+    }
+    Ok(())
 }
 
-fn judge_rtt(ts: Timers, rtt: Rtt) -> Verdict
+#[tactic(auto, unfolding(rules_timers::specs::Timers::judge_rtt))]
+fn judge_rtt(ts: Timers, rtt: Rtt) -> Result<(), Refusal>
     ensures { result ≡ judge_rtt ts rtt }
 {
-    let bad = refusals::when(!rtt::in_range(rtt), Refusal::BadRtt, Verdict::Accepted);
-    refusals::when(!kept(ts), Refusal::BadState, bad)
+    if !kept(ts) {
+        return Err(Refusal::BadState);
+    }
+    if !rtt::in_range(rtt) {
+        return Err(Refusal::BadRtt);
+    }
+    Ok(())
 }
 
-pub fn update_snd_period(ts: Timers, period: u64) -> TimersSet
+#[tactic(auto, unfolding(rules_timers::specs::Timers::update_snd_period))]
+pub fn update_snd_period(ts: Timers, period: u64) -> Result<Timers, Refusal>
     ensures { result ≡ update_snd_period ts period }
 {
-    match judge_period(ts, period) {
-        Verdict::Refused(r) => TimersSet::Refused(r),
-        Verdict::Accepted => {
-            let mut after = ts;
-            after.snd.period = period;
-            TimersSet::Done(after)
-        }
-    }
+    judge_period(ts, period)?;
+    let mut after = ts;
+    after.snd.period = period;
+    Ok(after)
 }
 
-pub fn update_rtt(ts: Timers, rtt: Rtt) -> TimersSet
+#[tactic(auto, unfolding(rules_timers::specs::Timers::update_rtt))]
+pub fn update_rtt(ts: Timers, rtt: Rtt) -> Result<Timers, Refusal>
     ensures { result ≡ update_rtt ts rtt }
 {
-    match judge_rtt(ts, rtt) {
-        Verdict::Refused(r) => TimersSet::Refused(r),
-        Verdict::Accepted => {
-            let p = calculate_periods(ts.exp_count, rtt);
-            let mut after = ts;
-            after.full_ack.period = p.ack;
-            after.nak.period = p.nak;
-            after.exp.period = p.exp;
-            TimersSet::Done(after)
-        }
-    }
+    judge_rtt(ts, rtt)?;
+    let p = calculate_periods(ts.exp_count, rtt);
+    let mut after = ts;
+    after.full_ack.period = p.ack;
+    after.nak.period = p.nak;
+    after.exp.period = p.exp;
+    Ok(after)
 }
 
 // The peer was heard: EXP's count starts again at 1 and the idle timer at now; EXP's own origin and period stay.
-pub fn reset_exp(ts: Timers, now: u64) -> TimersSet
+#[tactic(auto, unfolding(rules_timers::specs::Timers::reset_exp))]
+pub fn reset_exp(ts: Timers, now: u64) -> Result<Timers, Refusal>
     ensures { result ≡ reset_exp ts now }
 {
-    match judge(ts, now) {
-        Verdict::Refused(r) => TimersSet::Refused(r),
-        Verdict::Accepted => {
-            let mut after = ts;
-            after.exp_count = 1;
-            after.peer_idle.last = now;
-            TimersSet::Done(after)
-        }
-    }
+    judge(ts, now)?;
+    let mut after = ts;
+    after.exp_count = 1;
+    after.peer_idle.last = now;
+    Ok(after)
 }

@@ -1,5 +1,5 @@
--- What the code writes of a record's bytes.
---   first4 bs rest, first8 bs   the elements that the code reads of a field's bytes, before the rest
+-- What a record's bytes are.
+--   first4 bs rest, first8 bs   the first elements of a field's bytes, before the rest
 --   bytes-encode                the kind, the flags and the bytes of each field make the rules' record
 use Rattle.std.specs.Prelude.{◌≡◌, List, [], ◌∷◌, ℕ, ◌<◌, get_or}
 use Rattle.std.proofs.Math.Nat.{mod-eq_of_lt}

@@ -1,33 +1,33 @@
 -- The check of the entries: what the code uses of it, and what it shows.
 --   sent_is, unsent-is         the rules of an entry, test by test
 --   all-at, all-by             what holds of all entries holds of each, and conversely
---   all-on, all-not, all_end   the check of a run of entries, entry by entry
+--   all-on, all-not, all_end   the check of a run of entries, entry by entry: the entry holds, it fails, none is left.
+--                              Steps of the definition: no code cites them now
 --   no-entry                   an entry of zeros
 --   entry-sent, entry-unsent, entry-short, entries_by
 --                              the check of all entries is the check of each, and conversely; an entry's place and
 --                              length
---   entries-is                 the check of all is that of the sent packets and that of the unsent ones
+--   sent-fails, sent-holds     the check of all, from the checks of the sent packets and of the unsent ones
+--   entries-is                 the check of all is that of the sent packets and that of the unsent ones: two tests of
+--                              the definition, which no code cites now
 use Rattle.std.specs.Prelude.{◌≡◌, Bool, true, false, ◌&&◌, ltb, leb, eqb, length, take, drop, get_or}
-use Rattle.std.proofs.Math.Path.{refl, ap}
-use Rattle.std.proofs.Common.{◌∙◌, add-one, le_of_eq, arith, length-drop, drop_of_length-le, take_all, length-take-le, drop-cons, get_or-take, get_or-drop, leb-true}
-use Rattle.std.proofs.Math.Bool.{and-eq-true_iff}
+use Rattle.std.proofs.Math.Path.{refl, sym, ap, ap₂}
+use Rattle.std.specs.List.{list_all, range_with_len}
+use Rattle.std.proofs.Common.{◌∙◌, add-one, zero-add, le_of_eq, arith, length-drop, drop_of_length-le, take_all, length-take-le, drop-cons, get_or-take, get_or-drop, leb-true}
+use Rattle.std.proofs.Math.Bool.{and-eq-true_iff, and-true}
 use mathlib.Core.List.{List, [], ◌∷◌}
 use Prim.Native.Nat.{ℕ, zero, suc, ◌+◌, ◌-◌, ◌^◌, ◌≤◌, ◌<◌}
 use Rattle.std.proofs.Math.Decide.{dec_lt}
 use Rattle.laws.specs.Bools.{and_l, and_r}
 use Rattle.ring.specs.declared.Entry.{Entry}
 use Rattle.ring.specs.Entry.{entry, read_e}
-use Rattle.ring.specs.Ring.{slot_of, packets}
+use Rattle.ring.specs.Ring.{slot_of, tab, packets}
 use Rattle.ring.specs.Ring.Laws.{packets-length, packets-at}
 use Rattle.rules.specs.Settings.{Settings}
 use Rattle.rules.specs.BookRules.{every, sent_kept, unsent_kept}
 use Rattle.buffer.specs.declared.SendBuffer.{SendBuffer}
 use Rattle.buffer.specs.State.{packet_of}
 use Rattle.book_rules.specs.Kept.{all, sent_entry, unsent_entry, entry_kept, entries_kept}
-
-and-true : (b : Bool) → (b && true) ≡ b
-and-true true = refl
-and-true false = refl
 
 -- ## One entry
 
@@ -96,6 +96,23 @@ module _ (t : Entry → Bool) where
     unfolding all
     all_end = ap (all t) (drop_of_length-le (take n es) (le_of_eq (length-take-le n es room)))
 
+  -- the test of each of n values in turn is the test of their list
+  all-tab : (k n : ℕ) (f : ℕ → Entry) → list_all (λ i. t (f i)) (range_with_len k n) ≡ all t (tab k n f)
+  unfolding all
+  all-tab k zero f = refl
+  all-tab k (suc n) f = ap (λ (b : Bool). t (f k) && b) (rw (add-one k) (all-tab (suc k) n f))
+
+take-tab : (m k n : ℕ) (f : ℕ → Entry) → m ≤ n → take m (tab k n f) ≡ tab k m f
+take-tab zero k n f h = refl
+take-tab (suc m) k zero f h = absurd (omega arith)
+take-tab (suc m) k (suc n) f h = ap (λ (es : List Entry). f k ∷ es) (take-tab m (suc k) n f (omega arith))
+
+drop-tab : (m k n : ℕ) (f : ℕ → Entry) → m ≤ n → drop m (tab k n f) ≡ tab (k + m) (n - m) f
+drop-tab zero k n f h = ap₂ (λ (i m : ℕ). tab i m f) (omega arith) (omega arith)
+drop-tab (suc m) k zero f h = absurd (omega arith)
+drop-tab (suc m) k (suc n) f h =
+    drop-tab m (suc k) n f (omega arith) ∙ ap₂ (λ (i l : ℕ). tab i l f) (omega arith) (omega arith)
+
 -- ## Every entry
 
 module _ (c : Settings) (b : SendBuffer) (xs : List ℕ) (few : b.sent ≤ b.ring.len) where
@@ -146,6 +163,26 @@ module _ (c : Settings) (b : SendBuffer) (xs : List ℕ) (few : b.sent ≤ b.rin
       let q = all-by (entry_kept c false) (drop b.sent (packets b.ring xs)) no-entry
       (λ i h. let k : i < b.ring.len - b.sent = rw late-length at h in rw (late i (omega arith)) (g (b.sent + i) (omega arith) (omega arith))) in
       rw (p, q)
+
+  -- the sent packets' check fails, or the unsent packets' check decides
+  sent_run : list_all (λ i. sent_entry c (at i)) (range_with_len 0 b.sent) ≡ all (entry_kept c true) (take b.sent (packets b.ring xs))
+  unfolding packets
+  sent_run = all-tab (entry_kept c true) 0 b.sent at ∙ ap (all (entry_kept c true)) (sym (take-tab b.sent 0 b.ring.len at few))
+
+  unsent_run : list_all (λ i. unsent_entry c (at i)) (range_with_len b.sent (b.ring.len - b.sent))
+      ≡ all (entry_kept c false) (drop b.sent (packets b.ring xs))
+  unfolding packets
+  unsent_run = all-tab (entry_kept c false) b.sent (b.ring.len - b.sent) at ∙ ap (all (entry_kept c false)) (sym (rw zero-add at (drop-tab b.sent 0 b.ring.len at few)))
+
+  pub sent-fails : (r : Bool) → r ≡ false → r ≡ list_all (λ i. sent_entry c (at i)) (range_with_len 0 b.sent) → r ≡ entries_kept c b xs
+  unfolding entries_kept
+  sent-fails r f e = rw (← sent_run, ← e, f)
+
+  pub sent-holds : (p r : Bool) → p ≡ true → p ≡ list_all (λ i. sent_entry c (at i)) (range_with_len 0 b.sent)
+      → r ≡ list_all (λ i. unsent_entry c (at i)) (range_with_len b.sent (b.ring.len - b.sent))
+      → r ≡ entries_kept c b xs
+  unfolding entries_kept
+  sent-holds p r t e f = rw (← sent_run, ← unsent_run, ← e, t, f)
 
 -- the check of the sent packets, and of the unsent ones
 pub entries-is : (c : Settings) (b : SendBuffer) (xs : List ℕ)

@@ -1,7 +1,10 @@
--- What the code uses of the check of the numbers and the areas, and of the whole check.
+-- The check of the numbers and the areas, and the whole check: what the code uses of them, and its tests in turn.
 --   Numbered, Framed   the rules of the numbers and of the areas as facts
 --   numbers_facts, facts_numbers, areas_facts, facts_areas   the tests decide these facts, both ways
---   kept_frame, frame-numbers, frame-areas, kept-entries, kept-rest   the whole check, test after test
+--   all_packets        the first packets, as many as there are, are all of them
+--   frame, frame-numbers, frame-areas   the numbers and the areas together
+--   kept_frame, kept-entries, kept-rest   the definition's tests in turn: the numbers and the areas fail, the entries
+--                      fail, or the last two tests decide. No code cites these three now
 --   weighable          the wire sizes of checked entries can be summed
 use Rattle.std.specs.Prelude.{◌≡◌, Bool, true, false, ◌&&◌, List, ℕ, ◌^◌, ◌≤◌, ◌<◌, ltb, leb, eqb, length, take}
 use Rattle.std.proofs.Math.Bool.{and-eq-true_iff}
@@ -10,6 +13,7 @@ use Rattle.std.proofs.Math.Seq.{take_all}
 use borrow.Author.Tests.{ltb-true, leb-true, eqb-true, lt-ltb, le-leb, eq-eqb}
 use Rattle.laws.specs.Bools.{and_l, and_r}
 use Rattle.rules_numbers.specs.Rtt as Rtt
+use Rattle.ring.specs.declared.Ring.{Ring}
 use Rattle.ring.specs.Ring.{placed}
 use Rattle.ring.specs.Ring.Laws.{Placed, placed_facts, facts_placed}
 use Rattle.loss_list.specs.LossList.{keeps}
@@ -94,8 +98,12 @@ module _ (c : Settings) (b : SendBuffer) where
 
 -- ## The whole check
 
+-- the first packets, as many as there are, are all of them
+pub all_packets : (r : Ring) (xs : List ℕ) → take r.len (packets_of r xs) ≡ packets_of r xs
+all_packets r xs = take_all r.len (packets_of r xs) (le_of_eq (packets-length r xs))
+
 module _ (c : Settings) (b : SendBuffer) (xs ls : List ℕ) where
-  abbrev frame : Bool
+  abbrev pub frame : Bool
   frame = numbers_kept c b && areas_kept c b (length xs) (length ls)
 
   pub kept_frame : frame ≡ false → kept c (state b xs ls) ≡ false
@@ -127,4 +135,4 @@ module _ (c : Settings) (b : SendBuffer) (xs ls : List ℕ) where
       pub kept-rest :
           (leb (wire_sizes c (take b.ring.len (packets_of b.ring xs))) b.bytes && keeps b.front.0 b.sent b.lost ls) ≡ kept c (state b xs ls)
       unfolding kept
-      kept-rest = rw (e, f, take_all b.ring.len (packets_of b.ring xs) (le_of_eq (packets-length b.ring xs)))
+      kept-rest = rw (e, f, all_packets b.ring xs)

@@ -5,11 +5,10 @@
 --   kept-ready                such books are ready
 --   ready-kept                books that represent any sender that keeps the rules keep them
 --   new-kept                  new books keep them
-use Rattle.std.specs.Prelude.{◌≡◌, Bool, true, ◌&&◌, List, [], ◌∷◌, ℕ, suc, ◌+◌, ◌-◌, ◌*◌, ◌^◌, ◌≤◌, ◌<◌, ltb, get_or, take, drop}
+use Rattle.std.specs.Prelude.{◌≡◌, Bool, true, ◌&&◌, List, [], ◌∷◌, ℕ, suc, ◌+◌, ◌-◌, ◌*◌, ◌^◌, ◌≤◌, ◌<◌, ltb, get_or, take, drop, Option, Some, None}
 use Rattle.std.proofs.Math.Path.{refl, sym}
 use Rattle.std.proofs.Common.{ap, ◌∙◌, mod-eq_of_lt, length-drop, get_or-take, get_or-drop}
 use Rattle.std.proofs.Math.Bool.{and-eq-true_iff}
-use Rattle.std.proofs.Math.Option.{Option, none, some}
 use native.Mathlib.Omega.{arith}
 use Rattle.std.proofs.Math.Dec.{leb}
 use Rattle.std.proofs.Math.ListN.{length}
@@ -36,8 +35,6 @@ use Rattle.rules.specs.BookRules as books
 use Rattle.rules.specs.BookRules.{every, sent_kept, unsent_kept, held_is_kept}
 use Rattle.rules_theorems.specs.Laws.BookRules.{Kept, Sent, Unsent, HeldIn, kept_facts}
 use Rattle.rules_theorems.proofs.CallsKept.{fresh_kept}
-use Rattle.buffer.specs.declared.Flushed.{Flushed}
-use Rattle.buffer.specs.declared.Flushed.TheVariants.{Nothing, Held}
 use Rattle.buffer.specs.State.{State, state, packet_of, view, lost_of, fresh}
 use Rattle.buffer.specs.State.View.{packets-length, packets-at}
 use Rattle.buffer.specs.State.Stands.{HeldAs, Stands, Ready}
@@ -46,10 +43,11 @@ use Rattle.buffer.specs.State.Facts.{stands_facts, stands-sent, stands-unsent}
 use Rattle.book_rules.specs.Kept.{flushed_kept, numbers_kept, areas_kept, sent_entry, unsent_entry, entries_kept, kept}
 use Rattle.book_rules.specs.Kept.Entries.{sent_is, unsent-is, entry-sent, entry-unsent, entry-short, entries_by}
 use Rattle.book_rules.specs.Kept.Laws.{Numbered, Framed, numbers_facts, facts_numbers, areas_facts, facts_areas}
+use Rattle.buffer.specs.declared.FlushedPacket.{FlushedPacket}
 
-abbrev pub held_of : Flushed → Option rules.Held
-held_of Nothing = none
-held_of (Held n slot len) = some (record { number = n.0; slot = slot; len = len })
+abbrev pub held_of : Option FlushedPacket → Option rules.Held
+held_of None = None
+held_of (Some p) = Some (record { number = p.number.0; slot = p.slot; len = p.len })
 
 abbrev pub seen_as : SenderCongestionControl → State → Sender
 seen_as p st =
@@ -87,22 +85,22 @@ small n h = sym (mod-eq_of_lt h)
 -- ## The flushed packet
 
 module _ (c : Settings) where
-  flushed-held : (f : Flushed) → flushed_kept c f ≡ true → HeldAs f (held_of f)
-  flushed-held Nothing e = tt
-  flushed-held (Held n slot len) e = (small n.0 (ltb-true _ _ ((and-eq-true_iff (ltb n.0 (2 ^ 31)) _).0 e).0), refl, refl)
+  flushed-held : (f : Option FlushedPacket) → flushed_kept c f ≡ true → HeldAs f (held_of f)
+  flushed-held None e = tt
+  flushed-held (Some p) e = (small p.number.0 (ltb-true _ _ ((and-eq-true_iff (ltb p.number.0 (2 ^ 31)) _).0 e).0), refl, refl)
 
-  flushed-kept : (f : Flushed) → flushed_kept c f ≡ true → held_is_kept c (held_of f) ≡ true
+  flushed-kept : (f : Option FlushedPacket) → flushed_kept c f ≡ true → held_is_kept c (held_of f) ≡ true
   unfolding held_is_kept
-  flushed-kept Nothing e = refl
-  flushed-kept (Held n slot len) e = ((and-eq-true_iff (ltb n.0 (2 ^ 31)) (ltb slot (capacity c) && leb len c.size)).0 e).1
+  flushed-kept None e = refl
+  flushed-kept (Some p) e = ((and-eq-true_iff (ltb p.number.0 (2 ^ 31)) (ltb p.slot (capacity c) && leb p.len c.size)).0 e).1
 
-  held-flushed : (f : Flushed) (h : Option rules.Held) → HeldAs f h → HeldIn c h → flushed_kept c f ≡ true
-  held-flushed Nothing h a k = refl
-  held-flushed (Held n slot len) none a k = absurd a
-  held-flushed (Held n slot len) (some h) a k =
-      let number : n.0 < 2 ^ 31 = rw a.0 (wire-below h.number) in
-      let there : slot < capacity c = rw a.1 k.0 in
-      let short : len ≤ c.size = rw a.2 k.1 in
+  held-flushed : (f : Option FlushedPacket) (h : Option rules.Held) → HeldAs f h → HeldIn c h → flushed_kept c f ≡ true
+  held-flushed None h a k = refl
+  held-flushed (Some p) None a k = absurd a
+  held-flushed (Some p) (Some h) a k =
+      let number : p.number.0 < 2 ^ 31 = rw a.0 (wire-below h.number) in
+      let there : p.slot < capacity c = rw a.1 k.0 in
+      let short : p.len ≤ c.size = rw a.2 k.1 in
       rw (lt-ltb _ _ number, lt-ltb _ _ there, le-leb _ _ short)
 
 -- ## Books that keep the rules

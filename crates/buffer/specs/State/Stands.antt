@@ -3,8 +3,7 @@
 --   Others ..       so are the fields that don't depend on the packets
 --   Stands c st s   st represents s
 --   Ready c st      st represents a sender that keeps the book rules: what the functions of the buffer require
-use Rattle.std.specs.Prelude.{◌≡◌, ℕ, ◌+◌, ◌*◌, ◌≤◌, length}
-use Rattle.std.proofs.Math.Option.{Option, none, some}
+use Rattle.std.specs.Prelude.{◌≡◌, ℕ, ◌+◌, ◌*◌, ◌≤◌, length, Option, Some, None}
 use Rattle.rules_numbers.specs.declared.Rtt.{Rtt}
 use Rattle.ring.specs.Ring.Laws.{Placed}
 use Rattle.loss_list.specs.LossList.Stands as losses
@@ -12,18 +11,17 @@ use Rattle.rules.specs.Numbers.{wire}
 use Rattle.rules.specs.Settings.{Settings, capacity}
 use Rattle.rules.specs.Sender.{Held, Sender}
 use Rattle.rules_theorems.specs.Laws.BookRules.{Kept}
-use Rattle.buffer.specs.declared.Flushed.{Flushed}
-use Rattle.buffer.specs.declared.Flushed.TheVariants as flushed
+use Rattle.buffer.specs.declared.FlushedPacket.{FlushedPacket}
 use Rattle.buffer.specs.State.{State, view, lost_of}
 use Rattle.buffer.specs.State.View.{Places}
 
-abbrev pub HeldAs : Flushed → Option Held → Type 0
-HeldAs flushed.Nothing none = Unit {0}
-HeldAs flushed.Nothing (some h) = ⊥
-HeldAs (flushed.Held n slot len) none = ⊥
-HeldAs (flushed.Held n slot len) (some h) = (n.0 ≡ wire h.number) × (slot ≡ h.slot) × (len ≡ h.len)
+abbrev pub HeldAs : Option FlushedPacket → Option Held → Type 0
+HeldAs None None = Unit {0}
+HeldAs None (Some h) = ⊥
+HeldAs (Some p) None = ⊥
+HeldAs (Some p) (Some h) = (p.number.0 ≡ wire h.number) × (p.slot ≡ h.slot) × (p.len ≡ h.len)
 
-pub record Others (r r' : Rtt) (m m' e e' : ℕ) (f : Flushed) (h : Option Held) : Type 0 where
+pub record Others (r r' : Rtt) (m m' e e' : ℕ) (f : Option FlushedPacket) (h : Option Held) : Type 0 where
   pub rtt : r ≡ r'
   pub message : m ≡ m'
   pub expected : e ≡ e'

@@ -7,19 +7,16 @@
 --   ack_refines                         the call answers and leaves what the rules say
 use Rattle.std.proofs.Math.Path.{◌≡◌, refl, sym, ap}
 use Rattle.std.proofs.Common.{◌∙◌, arith, length-take}
-use Rattle.std.specs.Prelude.{Bool, cond, ltb, eqb, length, take}
+use Rattle.std.specs.Prelude.{Bool, cond, ltb, eqb, length, take, Option, Some, None, Result, Ok, Err, ℕ}
 use Rattle.std.proofs.Math.Bool.{true, false}
-use Rattle.std.proofs.Math.Option.{Option, none, some}
 use Prim.Native.Nat.{ℕ, ◌+◌, ◌-◌, ◌^◌, ◌≤◌, ◌<◌, max}
 use borrow.Author.Tests.{ltb-false, lt-leb}
 use Rattle.rules_numbers.specs.declared.SeqNumber.{SeqNumber}
 use Rattle.rules_numbers.specs.Modular.{seqs, plus}
 use Rattle.rules_refusals.specs.declared.Refusal.{Refusal}
 use Rattle.rules_refusals.specs.declared.Refusal.TheVariants.{Empty, InvalidAck, StaleFullAck}
-use Rattle.rules_refusals.specs.declared.Verdict.{Verdict}
-use Rattle.rules_refusals.specs.declared.Verdict.TheVariants.{Accepted, Refused}
 use Rattle.rules_refusals.specs.Table.{number_of}
-use Rattle.rules_refusals.specs.Verdict.{when, answer}
+use Rattle.rules_refusals.specs.Verdict.{Verdict, accepted, when, answer}
 use Rattle.loss_list.specs.LossList.Stands.{wire-plus}
 use Rattle.rules.specs.Numbers.{wire}
 use Rattle.rules_theorems.specs.Laws.Numbers.{wire-below, distance-is-dist}
@@ -38,53 +35,52 @@ use Rattle.buffer.specs.State.Facts.{stands_facts}
 use Rattle.buffer.specs.State.Reports.{packets-is}
 use Rattle.buffer.specs.Removal.{removed, going}
 use Rattle.buffer.specs.Removal.Laws.{stands-removed, going-is}
-use Rattle.buffer_ack.specs.declared.FullAck.{FullAck}
-use Rattle.buffer_ack.specs.declared.AckRtt.{AckRtt}
-use Rattle.buffer_ack.specs.declared.Acked.{Acked}
-use Rattle.buffer_ack.specs.Ack.{full_of, rtt_of, ack_of, judge, judge_on, take_rtt, acknowledged, refused, done, update, verdict_of, books_of, said_of}
+use Rattle.buffer_ack.specs.Ack.{ack_of, judge, judge_on, take_rtt, acknowledged, refused, done, update, verdict_of, books_of, said_of}
+use Rattle.rules_numbers.specs.declared.Rtt.{Rtt}
+use Rattle.buffer_ack.specs.declared.AckAction.{AckAction}
 
 -- the outcome o of the call on st is the answer a of the rules
-pub record Answers (c : Settings) (st : State) (o : Acked) (a : calls.Answer) : Type 0 where
+pub record Answers (c : Settings) (st : State) (o : Result (SendBuffer × AckAction) (SendBuffer × Refusal)) (a : calls.Answer) : Type 0 where
   pub verdict : verdict_of o ≡ a.verdict
   pub said : said_of o ≡ a.said
   pub stands : Stands c (state (books_of o) st.ring st.lost) a.after
 
-full_verdict-stale : (full : Option ℕ) (e : ℕ) (r : Refusal) → full_verdict full e ≡ Refused r → number_of r ≡ 11
+full_verdict-stale : (full : Option ℕ) (e : ℕ) (r : Refusal) → full_verdict full e ≡ Err r → number_of r ≡ 11
 unfolding full_verdict
-full_verdict-stale none e r h = absurd (let z : ◌≡◌ {A = ℕ} 0 1 = cc in omega arith)
-full_verdict-stale (some n) e r h = go (ltb n e) h
+full_verdict-stale None e r h = absurd (let z : ◌≡◌ {A = ℕ} 0 1 = cc in omega arith)
+full_verdict-stale (Some n) e r h = go (ltb n e) h
   where
-    go : (t : Bool) → when t (StaleFullAck n e) Accepted ≡ Refused r → number_of r ≡ 11
+    go : (t : Bool) → when t (StaleFullAck n e) accepted ≡ Err r → number_of r ≡ 11
     go true k = cc
     go false k = absurd (let z : ◌≡◌ {A = ℕ} 0 1 = cc in omega arith)
 
 -- "All stays as before; 11 alone keeps a new RTT."
-module _ (c : Settings) (n : SeqNumber) (full : FullAck) (rtt : AckRtt) (st : State) (r : Refusal) where
+module _ (c : Settings) (n : SeqNumber) (full : Option ℕ) (rtt : Option Rtt) (st : State) (r : Refusal) where
   abbrev kept : SendBuffer
   kept = cond (eqb (number_of r) 11) (take_rtt rtt st).books st.books
 
-  abbrev by : Bool → Bool → Verdict → Acked
+  abbrev by : Bool → Bool → Verdict → Result (SendBuffer × AckAction) (SendBuffer × Refusal)
   by a b v =
-      answer (refused st) (when a Empty (when b (InvalidAck n st.books.front (record { 0 = plus seqs st.books.front.0 st.books.sent })) Accepted))
+      answer (refused st) (when a Empty (when b (InvalidAck n st.books.front (record { 0 = plus seqs st.books.front.0 st.books.sent })) accepted))
       (answer (refused (take_rtt rtt st)) v (done c (ack_of n (take_rtt rtt st)) full (take_rtt rtt st)))
 
-  by-keeps : (a b : Bool) (v : Verdict) → full_verdict (full_of full) st.books.expected ≡ v → verdict_of (by a b v) ≡ Refused r → books_of (by a b v) ≡ kept
+  by-keeps : (a b : Bool) (v : Verdict) → full_verdict full st.books.expected ≡ v → verdict_of (by a b v) ≡ Err r → books_of (by a b v) ≡ kept
   unfolding done
   by-keeps true b v f k = let is : number_of r ≡ 9 = cc in rw is
   by-keeps false true v f k = let is : number_of r ≡ 10 = cc in rw is
-  by-keeps false false Accepted f k = absurd (let z : ◌≡◌ {A = ℕ} 0 1 = cc in omega arith)
-  by-keeps false false (Refused q) f k =
+  by-keeps false false (Ok _) f k = absurd (let z : ◌≡◌ {A = ℕ} 0 1 = cc in omega arith)
+  by-keeps false false (Err q) f k =
       let same : number_of r ≡ number_of q = cc in
-      let is : number_of r ≡ 11 = same ∙ full_verdict-stale (full_of full) st.books.expected q f in
+      let is : number_of r ≡ 11 = same ∙ full_verdict-stale full st.books.expected q f in
       rw is
 
-  pub refused-keeps : verdict_of (update c n full rtt st) ≡ Refused r → books_of (update c n full rtt st) ≡ kept
+  pub refused-keeps : verdict_of (update c n full rtt st) ≡ Err r → books_of (update c n full rtt st) ≡ kept
   unfolding update judge
   refused-keeps e =
-      by-keeps (eqb st.books.ring.len 0) (ltb st.books.sent (ack_of n st)) (full_verdict (full_of full) st.books.expected) refl e
+      by-keeps (eqb st.books.ring.len 0) (ltb st.books.sent (ack_of n st)) (full_verdict full st.books.expected) refl e
 
 module _ {c : Settings} {st : State} {s : Sender} (S : Stands c st s) where
-  pub stands-taken : (rtt : AckRtt) → Stands c (take_rtt rtt st) (rules.take_rtt (rtt_of rtt) s)
+  pub stands-taken : (rtt : Option Rtt) → Stands c (take_rtt rtt st) (rules.take_rtt rtt s)
   unfolding rules.take_rtt
   stands-taken rtt =
       let o = S.others in
@@ -99,7 +95,7 @@ module _ {c : Settings} {st : State} {s : Sender} (S : Stands c st s) where
         count = S.count;
         lost = S.lost;
         bytes = S.bytes;
-        others = record { rtt = ap (rules.given (rtt_of rtt)) o.rtt; message = o.message; expected = o.expected; held = o.held };
+        others = record { rtt = ap (rules.given rtt) o.rtt; message = o.message; expected = o.expected; held = o.held };
         turns = S.turns;
         pushed = S.pushed;
       }
@@ -118,7 +114,7 @@ module _ {c : Settings} {st : State} {s : Sender} (S : Stands c st s) where
     stays : max s.next (s.front + d) ≡ s.next
     stays = omega (arith, S.next)
 
-    pub stands-acknowledged : (full : FullAck) → Stands c (acknowledged c d full st) (rules.acknowledge c d (full_of full) s)
+    pub stands-acknowledged : (full : Option ℕ) → Stands c (acknowledged c d full st) (rules.acknowledge c d full s)
     unfolding acknowledged rules.acknowledge removed
     stands-acknowledged full =
         let bytes : ℕ = st.books.bytes - wire_sizes c (take d (view st)) in
@@ -135,7 +131,7 @@ module _ {c : Settings} {st : State} {s : Sender} (S : Stands c st s) where
           count = G.count;
           lost = G.lost;
           bytes = rw (S.packets, S.bytes);
-          others = record { rtt = o.rtt; message = o.message; expected = ap (expect (full_of full)) o.expected; held = o.held };
+          others = record { rtt = o.rtt; message = o.message; expected = ap (expect full) o.expected; held = o.held };
           turns = G.turns;
           pushed = G.pushed;
         }
@@ -156,45 +152,45 @@ module _ {c : Settings} {st : State} {s : Sender} (S : Stands c st s) (K : Kept 
   front-is : st.books.front ≡ record { 0 = wire s.front }
   front-is = ap (λ (m : ℕ). record { 0 = m }) S.front
 
-  judged : judge_on n st ≡ when (eqb (length s.packets) 0) Empty (when (ltb (sent_of s) (rules.ack_of s n.0)) outside Accepted)
+  judged : judge_on n st ≡ when (eqb (length s.packets) 0) Empty (when (ltb (sent_of s) (rules.ack_of s n.0)) outside accepted)
   unfolding judge
   judged =
       rw (packets-is S, ack-is, next-is, sent_is)
-      (ap (λ (f : SeqNumber). when (eqb (length s.packets) 0) Empty (when (ltb (sent_of s) (rules.ack_of s n.0)) (InvalidAck n f (record { 0 = wire s.next })) Accepted))
+      (ap (λ (f : SeqNumber). when (eqb (length s.packets) 0) Empty (when (ltb (sent_of s) (rules.ack_of s n.0)) (InvalidAck n f (record { 0 = wire s.next })) accepted))
       front-is)
 
   -- the layer above tests 3, 7 and 8
-  pub verdict-is : (full : FullAck) (rtt : AckRtt) → bad_rtt (rtt_of rtt) ≡ false
-      → ack_verdict c n.0 (full_of full) (rtt_of rtt) s
-      ≡ when (eqb (length s.packets) 0) Empty (when (ltb (sent_of s) (rules.ack_of s n.0)) outside (full_verdict (full_of full) s.expected))
+  pub verdict-is : (full : Option ℕ) (rtt : Option Rtt) → bad_rtt rtt ≡ false
+      → ack_verdict c n.0 full rtt s
+      ≡ when (eqb (length s.packets) 0) Empty (when (ltb (sent_of s) (rules.ack_of s n.0)) outside (full_verdict full s.expected))
   unfolding ack_verdict
   verdict-is full rtt r = rw (facts_kept c s K, lt-leb (2 ^ 31) n.0 number, r)
 
-  module _ (full : FullAck) (rtt : AckRtt) (ranged : bad_rtt (rtt_of rtt) ≡ false) where
+  module _ (full : Option ℕ) (rtt : Option Rtt) (ranged : bad_rtt rtt ≡ false) where
     abbrev call : calls.Call
-    call = calls.ack n.0 (full_of full) (rtt_of rtt)
+    call = calls.ack n.0 full rtt
 
     abbrev taken : State
     taken = take_rtt rtt st
 
-    by-full : (v : Verdict) → full_verdict (full_of full) s.expected ≡ v → ack_of n st ≤ st.books.sent
+    by-full : (v : Verdict) → full_verdict full s.expected ≡ v → ack_of n st ≤ st.books.sent
         → Answers c st (answer (refused taken) v (done c (ack_of n taken) full taken)) (calls.answer_by c v call s)
     unfolding calls.answer_by calls.left calls.with_rtt calls.said_by calls.after done acknowledged removed
-    by-full Accepted e h =
+    by-full (Ok _) e h =
         let near : rules.ack_of s n.0 ≤ st.books.sent = rw (← ack-is) h in
         record {
           verdict = refl;
           said = rw (← recovered-is S K (rules.ack_of s n.0) near, ← received_is S K (rules.ack_of s n.0) near, ack-is);
-          stands = rw ack-is (stands-acknowledged (stands-taken S rtt) (take_rtt-kept c (rtt_of rtt) s ranged K) (rules.ack_of s n.0) near full);
+          stands = rw ack-is (stands-acknowledged (stands-taken S rtt) (take_rtt-kept c rtt s ranged K) (rules.ack_of s n.0) near full);
         }
-    by-full (Refused r) e h = record {
+    by-full (Err r) e h = record {
       verdict = refl;
       said = refl;
-      stands = rw (full_verdict-stale (full_of full) s.expected r e) (stands-taken S rtt);
+      stands = rw (full_verdict-stale full s.expected r e) (stands-taken S rtt);
     }
 
-    by_tests : (a b : Bool) → ltb (sent_of s) (rules.ack_of s n.0) ≡ b → (v : Verdict) → full_verdict (full_of full) s.expected ≡ v
-        → Answers c st (answer (refused st) (when a Empty (when b outside Accepted)) (answer (refused taken) v (done c (ack_of n taken) full taken)))
+    by_tests : (a b : Bool) → ltb (sent_of s) (rules.ack_of s n.0) ≡ b → (v : Verdict) → full_verdict full s.expected ≡ v
+        → Answers c st (answer (refused st) (when a Empty (when b outside accepted)) (answer (refused taken) v (done c (ack_of n taken) full taken)))
         (calls.answer_by c (when a Empty (when b outside v)) call s)
     unfolding calls.answer_by calls.left
     by_tests true b e v f = record { verdict = refl; said = refl; stands = S }
@@ -205,6 +201,6 @@ module _ {c : Settings} {st : State} {s : Sender} (S : Stands c st s) (K : Kept 
     pub ack_refines : Answers c st (update c n full rtt st) (calls.answer c call s)
     unfolding update calls.answer calls.verdict_of
     ack_refines =
-        let e : full_verdict (full_of full) s.expected ≡ full_verdict (full_of full) st.books.expected = ap (full_verdict (full_of full)) (sym S.others.expected) in
+        let e : full_verdict full s.expected ≡ full_verdict full st.books.expected = ap (full_verdict full) (sym S.others.expected) in
         rw (judged, verdict-is full rtt ranged, e)
-        (by_tests (eqb (length s.packets) 0) (ltb (sent_of s) (rules.ack_of s n.0)) refl (full_verdict (full_of full) st.books.expected) e)
+        (by_tests (eqb (length s.packets) 0) (ltb (sent_of s) (rules.ack_of s n.0)) refl (full_verdict full st.books.expected) e)

@@ -6,12 +6,12 @@ use Rattle.buffer_nak.proofs.enter_run.Goals as goal
 pub enter-requires : goal.enter-requires
 enter-requires c =
     added-fits c.args.front.0 c.args.kind c.args.first c.args.end c.distance-count.result c.args.len c.args.lost.now
-    c.if-kind-eq-ADDED.true c.distance-count.ensures c.requires
+    c.if-kind.true c.distance-count.ensures c.requires
 
-pub returns-then-kind-eq-ADDED : goal.returns-then-kind-eq-ADDED
-returns-then-kind-eq-ADDED c =
+pub returns-then-kind : goal.returns-then-kind
+returns-then-kind c =
     added-left c.args.front.0 c.args.kind c.args.first c.args.end c.distance-count.result c.args.len c.args.lost.now
-    c.if-kind-eq-ADDED.true c.distance-count.ensures _ _ c.enter.ensures
+    c.if-kind.true c.distance-count.ensures _ _ c.enter.ensures
 
 pub returns : goal.returns
 returns c =

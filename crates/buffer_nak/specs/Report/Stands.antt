@@ -4,7 +4,7 @@
 --   lost-fits              the area has room for all that enters
 --   stands-reported        the books afterwards
 --   Answers, nak_refines   the call answers and leaves what the rules say
-use Rattle.std.specs.Prelude.{◌≡◌, ℕ, ◌+◌, ◌*◌, ◌^◌, ◌≤◌, ◌<◌, length, get_or}
+use Rattle.std.specs.Prelude.{◌≡◌, ℕ, ◌+◌, ◌*◌, ◌^◌, ◌≤◌, ◌<◌, length, get_or, Ok}
 use Rattle.std.proofs.Math.Path.{refl}
 use mathlib.Core.List.{List, [], ◌∷◌, ◌++◌}
 use Rattle.std.proofs.Common.{not-suc-le-zero, le-ltb}
@@ -15,7 +15,6 @@ use Rattle.rules.specs.Settings.{Settings}
 use Rattle.rules.specs.Numbers.{wire, distance}
 use Rattle.rules_theorems.specs.Laws.Numbers.{wire-distance}
 use Rattle.rules.specs.Sender.{Sender, sent_of}
-use Rattle.rules_refusals.specs.declared.Verdict.TheVariants.{Accepted}
 use Rattle.rules_theorems.specs.Laws.BookRules.{Kept, facts_kept}
 use Rattle.rules.specs.Refusals.{words_verdict, nak_verdict}
 use Rattle.rules.specs.Calls as calls
@@ -136,21 +135,21 @@ module _ {c : Settings} {st : State} {s : Sender} (S : Stands c st s) (K : Kept 
 
 -- the outcome l of the call on st and out is the answer a of the rules
 pub record Answers (c : Settings) (st : State) (out : List ℕ) (l : Left) (a : calls.Answer) : Type 0 where
-  pub verdict : a.verdict ≡ Accepted
+  pub verdict : a.verdict ≡ Ok tt
   pub runs : List LossRun
   pub said : a.said ≡ calls.Reported runs
   pub holds : Holds l.answer.runs runs out l.out
   pub stands : Stands c (state l.answer.buffer st.ring l.lost) a.after
 
 -- "Room needed: three per item"
-words-fine : (w : Words) (room : ℕ) → w ≡ items (items_of w) → 3 * length (items_of w) ≤ room → words_verdict w room ≡ Accepted
+words-fine : (w : Words) (room : ℕ) → w ≡ items (items_of w) → 3 * length (items_of w) ≤ room → words_verdict w room ≡ Ok tt
 unfolding words_verdict
 words-fine (items is) room e h = rw (le-ltb room (3 * length is) h)
 words-fine (bad index) room e h = cc
 
 module _ {c : Settings} {st : State} {s : Sender} (S : Stands c st s) (K : Kept c s) (ws out : List ℕ) (words : (j : ℕ) → get_or ws j 0 < 2 ^ 32)
     (fine : words_of ws ≡ items (items_of (words_of ws))) (room : ℕ) (enough : 3 * length (items_of (words_of ws)) ≤ room) where
-  accepted : calls.verdict_of c (calls.nak ws room) s ≡ Accepted
+  accepted : calls.verdict_of c (calls.nak ws room) s ≡ Ok tt
   unfolding calls.verdict_of nak_verdict
   accepted = rw (facts_kept c s K) (words-fine (words_of ws) room fine enough)
 

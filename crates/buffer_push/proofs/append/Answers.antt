@@ -1,12 +1,8 @@
 -- `buffer_push::append` meets its contract: the entry goes behind the others, its wire size into the byte count
 -- (`append-is`).
-use Rattle.std.proofs.Common.{arith}
 use Rattle.buffer.specs.State.{settings_of}
 use Rattle.buffer_push.specs.Message.Parts.{append-is}
 use Rattle.buffer_push.proofs.append.Goals as goal
-
-pub overflow_add-result : goal.overflow_add-result
-overflow_add-result c = omega (arith, c.requires.few)
 
 pub returns : goal.returns
 returns c =

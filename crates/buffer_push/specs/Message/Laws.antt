@@ -5,10 +5,9 @@
 --   message_refines, message-made, message-removed, message-wire, message-said, message-store
 --                             the whole message: the books, the answer, the store
 --   removals                  the packets removed by the message
-use Rattle.std.specs.Prelude.{◌≡◌, List, length}
+use Rattle.std.specs.Prelude.{◌≡◌, List, length, None}
 use Rattle.std.proofs.Math.Path.{refl, ap}
 use Rattle.std.proofs.Common.{◌∙◌, arith}
-use Rattle.std.proofs.Math.Option.{none}
 use Prim.Native.Nat.{ℕ, zero, suc, ◌+◌, ◌%◌, ◌^◌}
 use Rattle.std.proofs.Math.Numerals.{add-one}
 use Rattle.std.proofs.Math.ListN.{length-append}
@@ -71,7 +70,7 @@ numbered p s = record {
   rtt = s.rtt;
   messages = (s.messages + 1) % 2 ^ 26;
   expected = s.expected;
-  held = none;
+  held = None;
   pacing = p;
   pushed = s.pushed;
 }

@@ -2,7 +2,8 @@
 --   Sendable      what a message requires: refusals 2 to 6 don't apply, except for pacing's counts
 --   rest-opened   once it has its number, all its packets are to come
 --   Going         some are made, and those still to come lead to the same end as all from the start
---   going-opened, going_next, going-one, going_less, going-all, whole   at the start, at a packet, after it, at the end
+--   going-opened, going_next, going-one, one-made, going-all, whole   at the start, at a packet, after it, at the end
+--   going_less    fewer are to come after a packet than before it: a step of the definition, which no code cites now
 use Rattle.std.specs.Prelude.{◌≡◌, List, length}
 use Rattle.std.proofs.Math.Path.{refl}
 use Rattle.std.proofs.Common.{◌∙◌, arith}
@@ -88,10 +89,13 @@ module _ {c : Settings} {time m : ℕ} {payload : List ℕ} {n : ℕ} {start w :
       → Going c time m payload n start v
   going-one G h v e = let M = more G h in rw e (record { left = M.left; count = G.count; rest = rest-one M.rest; same = M.same })
 
+  pub one-made : Going c time m payload n start w → (v : Pushing) → v ≡ push_one c time m payload w → v.work.made ≡ w.work.made + 1
+  unfolding push_one appended roomed
+  one-made G v e = rw e (omega arith)
+
   pub going_less : Going c time m payload n start w → w.work.made < n → (v : Pushing) → v ≡ push_one c time m payload w
       → n - v.work.made < n - w.work.made
-  unfolding push_one appended roomed
-  going_less G h v e = rw e (omega arith)
+  going_less G h v e = omega (arith, h, one-made G v e)
 
   pub going-all : Going c time m payload n start w → n ≤ w.work.made → w ≡ pushes c time m payload n start
   unfolding pushes

@@ -10,71 +10,55 @@ use Rattle.buffer_run.proofs.turn.Goals as goal
 
 pub first_rule-requires : goal.first_rule-requires
 first_rule-requires c =
-    let r = c.requires.ready in
-    let k = stands_facts r.stands r.kept in
+    let k = stands_facts c.requires.ready.stands c.requires.ready.kept in
     record { placed = k.placed; sent = k.sent }
 
-pub send_next_lost_packet-requires : goal.send_next_lost_packet-requires
-send_next_lost_packet-requires c =
+pub send_next_lost_packet-requires-clause-losing : goal.send_next_lost_packet-requires-clause-losing
+send_next_lost_packet-requires-clause-losing c =
     let st = state c.args.b c.args.ring.now c.args.lost.now in
-    let some = loss-some _ _ _ st (sym c.first_rule.ensures ∙ c.in-Loss.is) in
-    record { losing = record { settings = _; ready = c.requires.ready; some = some; early = c.requires.early }; n_in_bounds = omega (arith, c.requires.room) }
+    record { settings = _; ready = c.requires.ready; some = loss-some _ _ _ st (sym c.first_rule.ensures ∙ c.in-Loss.is); early = c.requires.early }
 
-pub send_next_rto_packet-requires : goal.send_next_rto_packet-requires
-send_next_rto_packet-requires c =
+pub send_next_rto_packet-requires-clause-i_lt_len : goal.send_next_rto_packet-requires-clause-i_lt_len
+send_next_rto_packet-requires-clause-i_lt_len c =
     let inside = due-inside _ _ _ _ _ c.requires.ready c.requires.early (sym c.first_rule.ensures ∙ c.in-Due.is) in
-    record { standing = record { settings = _; lost = _; ready = c.requires.ready }; i_lt_len = (inside, c.requires.early, omega (arith, c.requires.room)) }
+    (inside, c.requires.early, omega (arith, c.requires.room))
 
-pub wait_for_ack-requires : goal.wait_for_ack-requires
-wait_for_ack-requires c = omega (arith, c.requires.room)
-
-pub send_unsent-requires : goal.send_unsent-requires
-send_unsent-requires c =
+pub send_unsent-requires-clause-sent_lt_len : goal.send_unsent-requires-clause-sent_lt_len
+send_unsent-requires-clause-sent_lt_len c =
     let st = state c.args.b c.args.ring.now c.args.lost.now in
-    let more = unsent-more _ _ _ st (sym c.first_rule.ensures ∙ c.in-Unsent.is) in
-    record { standing = record { settings = _; lost = _; ready = c.requires.ready }; sent_lt_len = (more, c.requires.early, c.requires.room) }
+    (unsent-more _ _ _ st (sym c.first_rule.ensures ∙ c.in-Unsent.is), c.requires.early, c.requires.room)
 
-pub flush_on_close-requires : goal.flush_on_close-requires
-flush_on_close-requires c =
+pub flush_on_close-requires-clause-flushable : goal.flush_on_close-requires-clause-flushable
+flush_on_close-requires-clause-flushable c =
     let st = state c.args.b c.args.ring.now c.args.lost.now in
-    let one = flush_one _ _ _ st (sym c.first_rule.ensures ∙ c.in-Flush.is) in
-    record { flushable = record { ready = c.requires.ready; one = one }; n_in_bounds = omega (arith, c.requires.room) }
-
-pub wait_for_input-requires : goal.wait_for_input-requires
-wait_for_input-requires c = omega (arith, c.requires.room)
+    record { ready = c.requires.ready; one = flush_one _ _ _ st (sym c.first_rule.ensures ∙ c.in-Flush.is) }
 
 pub returns-in-Loss : goal.returns-in-Loss
 unfolding act loss_turn sent_as
 returns-in-Loss c =
-    rw c.turned.ensures
-    (done-by _ _ _ _ _ _ _ _ _ (loss_turn _) false (turn_is _ _ _ _ rule.Loss (sym c.first_rule.ensures ∙ c.in-Loss.is)) refl c.send_next_lost_packet.ensures)
+    done-by _ _ _ _ _ _ _ (loss_turn _) false (turn_is _ _ _ _ rule.Loss (sym c.first_rule.ensures ∙ c.in-Loss.is)) refl c.send_next_lost_packet.ensures
 
 pub returns-in-Due : goal.returns-in-Due
 unfolding act sent_as
 returns-in-Due c =
-    rw c.turned-in-Due.ensures
-    (done-by _ _ _ _ _ _ _ _ _ (due_turn _ _) false (turn_is _ _ _ _ _ (sym c.first_rule.ensures ∙ c.in-Due.is)) refl (c.send_next_rto_packet.ensures.is _))
+    done-by _ _ _ _ _ _ _ (due_turn _ _) false (turn_is _ _ _ _ _ (sym c.first_rule.ensures ∙ c.in-Due.is)) refl (c.send_next_rto_packet.ensures.is _)
 
 pub returns-in-Window : goal.returns-in-Window
 unfolding act window_turn
 returns-in-Window c =
-    rw c.turned-in-Window.ensures
-    (done-by _ _ _ _ _ _ _ _ _ window_turn true (turn_is _ _ _ _ rule.Window (sym c.first_rule.ensures ∙ c.in-Window.is)) refl (c.wait_for_ack.ensures.is _ _))
+    done-by _ _ _ _ _ _ _ window_turn true (turn_is _ _ _ _ rule.Window (sym c.first_rule.ensures ∙ c.in-Window.is)) refl (c.wait_for_ack.ensures.is _ _)
 
 pub returns-in-Unsent : goal.returns-in-Unsent
 unfolding act unsent_turn
 returns-in-Unsent c =
-    rw c.turned-in-Unsent.ensures
-    (done-by _ _ _ _ _ _ _ _ _ (unsent_turn _) false (turn_is _ _ _ _ rule.Unsent (sym c.first_rule.ensures ∙ c.in-Unsent.is)) refl (c.send_unsent.ensures.is _))
+    done-by _ _ _ _ _ _ _ (unsent_turn _) false (turn_is _ _ _ _ rule.Unsent (sym c.first_rule.ensures ∙ c.in-Unsent.is)) refl (c.send_unsent.ensures.is _)
 
 pub returns-in-Flush : goal.returns-in-Flush
 unfolding act flush_turn
 returns-in-Flush c =
-    rw c.turned-in-Flush.ensures
-    (done-by _ _ _ _ _ _ _ _ _ (flush_turn _) false (turn_is _ _ _ _ rule.Flush (sym c.first_rule.ensures ∙ c.in-Flush.is)) refl c.flush_on_close.ensures)
+    done-by _ _ _ _ _ _ _ (flush_turn _) false (turn_is _ _ _ _ rule.Flush (sym c.first_rule.ensures ∙ c.in-Flush.is)) refl c.flush_on_close.ensures
 
 pub returns-in-Input : goal.returns-in-Input
 unfolding act input_turn
 returns-in-Input c =
-    rw c.turned-in-Input.ensures
-    (done-by _ _ _ _ _ _ _ _ _ input_turn true (turn_is _ _ _ _ rule.Input (sym c.first_rule.ensures ∙ c.in-Input.is)) refl (c.wait_for_input.ensures.is _ _))
+    done-by _ _ _ _ _ _ _ input_turn true (turn_is _ _ _ _ rule.Input (sym c.first_rule.ensures ∙ c.in-Input.is)) refl (c.wait_for_input.ensures.is _ _)

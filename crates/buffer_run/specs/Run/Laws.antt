@@ -2,12 +2,11 @@
 --   due-sent      the packet that rule 3 chooses is a sent one
 --   turn-stands   any turn of rules 2 to 7
 pub mod Whole
-use Rattle.std.specs.Prelude.{◌≡◌, ◌&&◌, cond, ℕ, suc, ◌+◌, ◌^◌, ◌≤◌, ◌<◌, length, take}
+use Rattle.std.specs.Prelude.{◌≡◌, ◌&&◌, cond, ℕ, suc, ◌+◌, ◌^◌, ◌≤◌, ◌<◌, length, take, Option, Some, None}
 use Rattle.std.proofs.Math.Path.{refl}
 use Rattle.std.proofs.Common.{sym, ap, ◌∙◌, subst, arith}
 use Rattle.std.proofs.Math.Bool.{Bool, true, false}
 use mathlib.Core.List.{List, [], ◌∷◌}
-use Rattle.std.proofs.Math.Option.{Option, none, some}
 use Rattle.std.proofs.Math.Dec.{ltb, eqb}
 use borrow.Author.Tests.{ltb-true, eqb-true}
 use Rattle.laws.specs.Bools.{and_r}
@@ -27,13 +26,13 @@ use Rattle.buffer_run.specs.Run.{act, turn}
 use Rattle.run_effects.specs.Sending.Stands.{TurnStands, few, loss_refines, due_refines, window_refines, next_refines, unsent_refines, flush_refines, input_refines}
 
 abbrev shift : ℕ → Option ℕ → Option ℕ
-shift f none = none
-shift f (some i) = some (f + i)
+shift f None = None
+shift f (Some i) = Some (f + i)
 
 or-shift : (f n : ℕ) (o : Option ℕ) → or_here (f + n) (shift f o) ≡ shift f (or_here n o)
 unfolding or_here
-or-shift f n none = refl
-or-shift f n (some i) = refl
+or-shift f n None = refl
+or-shift f n (Some i) = refl
 
 earliest-shift : (f now n : ℕ) (ps : List Packet) → earliest now (f + n) ps ≡ shift f (earliest now n ps)
 unfolding earliest
@@ -62,7 +61,7 @@ module _ {c : Settings} (now : ℕ) (draining : Bool) where
     more-is : ltb s.next (end s) ≡ ltb st.books.sent st.books.ring.len
     more-is = rw (few S, S.next) (ltb-add s.front st.books.sent (length s.packets))
 
-    pub due-sent : (i : ℕ) → due_at now st.books st.ring ≡ some i → i < st.books.sent
+    pub due-sent : (i : ℕ) → due_at now st.books st.ring ≡ Some i → i < st.books.sent
     due-sent i e = let d = due-some c now draining s K.good (s.front + i) (due-is ∙ ap (shift s.front) e) in omega (arith, d.1, S.next)
 
     by-rule : (l : List ℕ) → s.lost ≡ l → (d : Option ℕ) → due_at now st.books st.ring ≡ d → (o : Bool)
@@ -71,13 +70,13 @@ module _ {c : Settings} (now : ℕ) (draining : Bool) where
         → TurnStands c (act c now draining (rule_by (length l) d o m x) st) (Rules.obey c now draining (Rules.first l (shift s.front d) o m x) s)
     unfolding act rule_by Rules.first Rules.obey Rules.send
     by-rule (y ∷ ys) e d g o m more x one = loss_refines S K now draining y ys e
-    by-rule [] e (some i) g o m more x one = due_refines S K now draining i (due-sent i g)
-    by-rule [] e none g true m more x one = window_refines S K now draining
-    by-rule [] e none g false true more x one =
+    by-rule [] e (Some i) g o m more x one = due_refines S K now draining i (due-sent i g)
+    by-rule [] e None g true m more x one = window_refines S K now draining
+    by-rule [] e None g false true more x one =
         unsent_refines now draining st (next_refines S K now draining (more refl))
         (first-kept c now draining early s (let h = more refl in omega (arith, h, few S, S.next)) K) refl
-    by-rule [] e none g false false more true one = flush_refines S K now draining (one refl)
-    by-rule [] e none g false false more false one = input_refines S K now draining
+    by-rule [] e None g false false more true one = flush_refines S K now draining (one refl)
+    by-rule [] e None g false false more false one = input_refines S K now draining
 
     pub turn-stands : TurnStands c (turn c now draining st) (Rules.others c now draining s)
     unfolding turn rule_at Rules.others Rules.rule

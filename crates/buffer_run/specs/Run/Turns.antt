@@ -7,10 +7,9 @@
 --   loss-some, due-inside, unsent-more, flush_one   what holds if a rule is the first that applies
 --   swept_none, swept-some, late-few                no packet is late, or k are, and k is at most the number buffered
 --   run_none                                        a run without budget
-use Rattle.std.specs.Prelude.{◌≡◌, refl, Bool, true, false, ◌&&◌, List, ltb, length}
+use Rattle.std.specs.Prelude.{◌≡◌, refl, Bool, true, false, ◌&&◌, List, ltb, length, Option, Some, None}
 use Rattle.std.proofs.Math.Path.{sym, ap, subst}
 use Rattle.std.proofs.Common.{◌∙◌, ltb-true, eqb-true}
-use Rattle.std.proofs.Math.Option.{Option, none, some}
 use Prim.Native.Nat.{ℕ, zero, suc, ◌+◌, ◌*◌, ◌^◌, ◌≤◌, ◌<◌, min}
 use native.Mathlib.Omega.{arith}
 use Rattle.std.proofs.Math.Dec.{eqb}
@@ -26,24 +25,25 @@ use Rattle.buffer.specs.State.View.{packets-length}
 use Rattle.run_choice.specs.declared.Rule.{Rule}
 use Rattle.run_choice.specs.declared.Rule.TheVariants as rule
 use Rattle.run_choice.specs.Choice.{rule_by, due_at, rule_at}
-use Rattle.run_effects.specs.declared.Written.{Written}
-use Rattle.run_effects.specs.Sending.{Turned, Acted, written}
+use Rattle.run_effects.specs.declared.Records.{Records}
+use Rattle.run_effects.specs.Sending.{HasRoom, SameList, Turned, Wrote, written}
 use Rattle.run_effects.specs.Sending.Rules.{Drops}
 use Rattle.buffer_run.specs.Run.{walk, act, turn, swept, run}
 use Rattle.buffer_run.specs.Run.Laws.{due-sent}
 
-pub record Turning (c : Settings) (now : ℕ) (st : State) (n : ℕ) (out : List ℕ) : Type 0 where
+pub record Turning (c : Settings) (now : ℕ) (st : State) (given : Records) : Type 0 where
   pub ready : Ready c st
   pub early : now < 2 ^ 48
-  pub room : n * 24 + 48 ≤ length out
+  pub room : HasRoom 2 given
 
-pub record Done (c : Settings) (now : ℕ) (draining : Bool) (before : State) (n : ℕ) (out : List ℕ) (left : State) (m : ℕ) (ends : Bool) (list : List ℕ) : Type 0 where
-  pub acted : Acted (turn c now draining) before n out left m list
+pub record Done (c : Settings) (now : ℕ) (draining : Bool) (before : State) (given : Records) (after : State) (ends : Bool) (left : Records) : Type 0 where
+  pub wrote : Wrote (turn c now draining) before given after left
   pub ended : ends ≡ (turn c now draining before).ends
 
 -- rule 1, or nothing
-pub record Swept (c : Settings) (now : ℕ) (before : State) (out : List ℕ) (left : State) (m : ℕ) (list : List ℕ) : Type 0 where
-  pub is : (draining : Bool) (b : ℕ) → record { state = left; out = list; count = m; left = b } ≡ swept c now draining (record { state = before; out = out; count = 0; left = b })
+pub record Swept (c : Settings) (now : ℕ) (before : State) (given : Records) (after : State) (left : Records) : Type 0 where
+  pub is : (draining : Bool) (b : ℕ) → walk after left.list.now left.count b ≡ swept c now draining (walk before given.list.now given.count b)
+  pub same : SameList given left
 
 pub record Runnable (c : Settings) (now budget : ℕ) (st : State) (out : List ℕ) : Type 0 where
   pub ready : Ready c st
@@ -52,16 +52,19 @@ pub record Runnable (c : Settings) (now budget : ℕ) (st : State) (out : List �
 
 -- ## A turn
 
-pub done-by : (c : Settings) (now : ℕ) (draining : Bool) (st : State) (n : ℕ) (out : List ℕ) (left : State) (m : ℕ) (list : List ℕ) (tn : State → Turned) (ends : Bool)
+pub done-by : (c : Settings) (now : ℕ) (draining : Bool) (st : State) (given : Records) (after : State) (left : Records) (tn : State → Turned) (ends : Bool)
     → turn c now draining st ≡ tn st
     → ends ≡ (tn st).ends
-    → Acted tn st n out left m list
-    → Done c now draining st n out left m ends list
-done-by c now draining st n out left m list tn ends e f A = record {
-  acted = record {
-    state = A.state ∙ sym (ap (λ (t : Turned). t.state) e);
-    count = A.count ∙ sym (ap (λ (t : Turned). n + length t.records) e);
-    list = A.list ∙ sym (ap (λ (t : Turned). written n t.records out) e);
+    → Wrote tn st given after left
+    → Done c now draining st given after ends left
+done-by c now draining st given after left tn ends e f W = record {
+  wrote = record {
+    acted = record {
+      state = W.acted.state ∙ sym (ap (λ (t : Turned). t.state) e);
+      count = W.acted.count ∙ sym (ap (λ (t : Turned). given.count + length t.records) e);
+      list = W.acted.list ∙ sym (ap (λ (t : Turned). written given.count t.records given.list.now) e);
+    };
+    same = W.same;
   };
   ended = f ∙ sym (ap (λ (t : Turned). t.ends) e);
 }
@@ -69,7 +72,7 @@ done-by c now draining st n out left m list tn ends e f A = record {
 -- what holds if a rule is the first that applies
 abbrev Says : ℕ → Option ℕ → Bool → Bool → Rule → Type 0
 Says n d m x rule.Loss = 0 < n
-Says n d m x (rule.Due i) = d ≡ some i
+Says n d m x (rule.Due i) = d ≡ Some i
 Says n d m x rule.Window = Unit {0}
 Says n d m x rule.Unsent = m ≡ true
 Says n d m x rule.Flush = x ≡ true
@@ -78,11 +81,11 @@ Says n d m x rule.Input = Unit {0}
 says : (n : ℕ) (d : Option ℕ) (o m x : Bool) → Says n d m x (rule_by n d o m x)
 unfolding rule_by
 says (suc n) d o m x = omega arith
-says zero (some i) o m x = refl
-says zero none true m x = tt
-says zero none false true x = refl
-says zero none false false true = refl
-says zero none false false false = tt
+says zero (Some i) o m x = refl
+says zero None true m x = tt
+says zero None false true x = refl
+says zero None false false true = refl
+says zero None false false false = tt
 
 module _ (c : Settings) (now : ℕ) (draining : Bool) (st : State) where
   abbrev b : SendBuffer
@@ -116,21 +119,24 @@ module _ (c : Settings) (now : ℕ) (draining : Bool) (st : State) where
 
 -- ## Rule 1, and no budget
 
-module _ (c : Settings) (now : ℕ) (b : SendBuffer) (ring lost out : List ℕ) (k : ℕ) (e : k ≡ late c now (packets_of b.ring ring)) where
-  pub swept_none : k < 1 → Swept c now (state b ring lost) out (state b ring lost) 0 out
+module _ (c : Settings) (now : ℕ) (b : SendBuffer) (ring lost : List ℕ) (k : ℕ) (e : k ≡ late c now (packets_of b.ring ring)) where
+  pub swept_none : (given : Records) → k < 1 → Swept c now (state b ring lost) given (state b ring lost) given
   unfolding swept
-  swept_none h = let z : late c now (packets_of b.ring ring) ≡ 0 = sym e ∙ omega arith in record { is = λ draining m. rw z }
+  swept_none given h = let z : late c now (packets_of b.ring ring) ≡ 0 = sym e ∙ omega arith in record { is = λ draining m. rw z; same = record { name = refl; long = refl } }
 
-  pub swept-some : (w : Written) (list : List ℕ) → 1 ≤ k → Drops k b lost 0 out w list → Swept c now (state b ring lost) out (state w.buffer ring lost) w.count list
+  pub swept-some : (given : Records) (after : SendBuffer) (left : Records) → 1 ≤ k → Drops k b lost given after left
+      → Swept c now (state b ring lost) given (state after ring lost) left
   unfolding swept
-  swept-some w list h D = go k e h D
+  swept-some given after left h D = go k e h D
     where
-      go : (j : ℕ) → j ≡ late c now (packets_of b.ring ring) → 1 ≤ j → Drops j b lost 0 out w list
-          → Swept c now (state b ring lost) out (state w.buffer ring lost) w.count list
+      go : (j : ℕ) → j ≡ late c now (packets_of b.ring ring) → 1 ≤ j → Drops j b lost given after left
+          → Swept c now (state b ring lost) given (state after ring lost) left
       go zero p q A = absurd (omega arith)
       go (suc j) p q A = record {
         is = λ draining m.
-            rw (← p) (rw ((A.is ring).state, (A.is ring).list, (A.is ring).count));
+            let a = (A.is ring).acted in
+            rw (← p) (rw (a.state, a.list, a.count));
+        same = (A.is ring).same;
       }
 
   pub late-few : k ≤ b.ring.len

@@ -3,17 +3,8 @@ use Rattle.std.proofs.Common.{arith}
 use Rattle.encapsulate.specs.Laws.{start-within}
 use Rattle.encapsulate.proofs.cut.Goals as goal
 
-pub overflow_mul-start : goal.overflow_mul-start
-overflow_mul-start c =
-    let a = c.args in
-    let within = start-within a.size a.len a.k c.requires.sized.low (rw c.requires.is at c.requires.within) in
-    omega arith
-
 pub overflow_sub-len : goal.overflow_sub-len
 overflow_sub-len c =
     let a = c.args in
     let within = start-within a.size a.len a.k c.requires.sized.low (rw c.requires.is at c.requires.within) in
     omega arith
-
-pub returns : goal.returns
-returns c = rw (c.smaller.ensures, c.place_of.ensures, c.requires.is)

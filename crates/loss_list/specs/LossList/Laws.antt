@@ -1,6 +1,6 @@
 -- What the code uses of the loss list, on plain lists and for every key.
 --   Fits, Left           what a function requires of the area, and what it leaves: the list's length and elements
---   Filled               what taking out the nearest requires
+--   Filled               what taking out the nearest asks of an area
 --   moved, written       an area with some elements moved up, and with a run written
 --   length_over, take-over, set-over, over-over
 --                        an area with a list in its first elements: its length, the list, one more entry, a longer list
@@ -8,7 +8,10 @@
 --                        no entry; the last entry goes, or stays with all before it; no more stay than there were
 --   staying-taken        only the first n elements count
 --   Entering, entering   what `enter` leaves, given the two places in the list
---   descends-on, descends-not, descends-end, keeps-is, keeps-beyond   the check, entry by entry
+--   descends-on, descends-not, descends-end, keeps-is, keeps-beyond
+--                        the check, entry by entry (the code's is of a whole list: whole-on, whole-not, whole-end, keeps-whole)
+--   nearest-slice, staying-slice, keeps-slice
+--                        the first n elements as a slice: its last, how many stay, the check
 use Rattle.std.specs.Prelude.{◌≡◌, Bool, List, [], ◌∷◌, ◌++◌, ltb, length, take, drop, set, get_or}
 use Rattle.std.proofs.Math.Path.{refl, ap}
 use Rattle.std.proofs.Common.{sym, ◌∙◌, append_assoc, not-suc-le-zero, le_of_eq, add-one, sub-one, length-append, length-drop, drop_of_length-le, drop-cons, drop_at, drop-drop, get_or-take}
@@ -16,7 +19,7 @@ use Rattle.std.proofs.Math.Bool.{true, false, cond}
 use Prim.Native.Nat.{ℕ, zero, suc, ◌+◌, ◌-◌, ◌≤◌, ◌<◌, zero-le}
 use Rattle.std.proofs.Math.Nat.{le_refl}
 use native.Mathlib.Omega.{arith}
-use Rattle.std.proofs.Math.Seq.{slice, length-slice, take-take, drop-append-add, set-append_seam, append_snoc, length-take-le, take-append_seam}
+use Rattle.std.proofs.Math.Seq.{slice, length-slice, take-length, take-take, drop-append-add, set-append_seam, append_snoc, length-take-le, take-append_seam}
 use Rattle.std.proofs.lemmas.List.{take-append-le}
 use borrow.Author.Tests.{lt-ltb, le-ltb, le-leb, lt-leb}
 use Rattle.rules_numbers.specs.Modular.{seqs, plus, dist}
@@ -167,6 +170,24 @@ module _ (key : ℕ → ℕ) (x k n : ℕ) (e : List ℕ) (near far : ℕ) (a : 
 
 -- ## The check
 
+module _ (key : ℕ → ℕ) (l : List ℕ) where
+  module _ (i hi : ℕ) (inside : i < length l) where
+    whole-cut : drop i l ≡ get_or l i 0 ∷ drop (i + 1) l
+    whole-cut = rw (add-one i) (drop-cons l i 0 inside)
+
+    pub whole-on : in_order hi (key (get_or l i 0)) (get_or l i 0) ≡ true
+        → descends key hi (drop i l) ≡ descends key (key (get_or l i 0)) (drop (i + 1) l)
+    unfolding descends
+    whole-on h = ap (descends key hi) whole-cut ∙ rw h
+
+    pub whole-not : in_order hi (key (get_or l i 0)) (get_or l i 0) ≡ false → descends key hi (drop i l) ≡ false
+    unfolding descends
+    whole-not h = ap (descends key hi) whole-cut ∙ rw h
+
+  pub whole-end : (hi : ℕ) → descends key hi (drop (length l) l) ≡ true
+  unfolding descends
+  whole-end hi = ap (descends key hi) (drop_of_length-le l (le_refl (length l)))
+
 module _ (key : ℕ → ℕ) (l : List ℕ) (n : ℕ) (room : n ≤ length l) where
   module _ (i hi : ℕ) (inside : i < n) where
     cut : drop i (take n l) ≡ get_or l i 0 ∷ drop (i + 1) (take n l)
@@ -194,3 +215,19 @@ keeps-is f hi n e h = rw (le-leb n (length e) h)
 pub keeps-beyond : (f hi n : ℕ) (e : List ℕ) → length e < n → keeps f hi n e ≡ false
 unfolding keeps
 keeps-beyond f hi n e h = rw (lt-leb n (length e) h)
+
+-- the whole of a list
+pub keeps-whole : (f hi : ℕ) (l : List ℕ) → keeps f hi (length l) l ≡ descends (dist seqs f) hi l
+keeps-whole f hi l = keeps-is f hi (length l) l (le_refl (length l)) ∙ ap (descends (dist seqs f) hi) (take-length l)
+
+-- ## The first elements as a slice
+
+module _ (n : ℕ) (e : List ℕ) (room : n ≤ length e) where
+  pub nearest-slice : 0 < n → get_or (take n e) (length (take n e) - 1) 0 ≡ get_or e (n - 1) 0
+  nearest-slice some = rw (length-take-le n e room) (get_or-take n e (n - 1) 0 (omega arith))
+
+  pub staying-slice : (key : ℕ → ℕ) (k : ℕ) → staying key k (length (take n e)) (take n e) ≡ staying key k n e
+  staying-slice key k = rw (length-take-le n e room) (staying-taken key k e n n (le_refl n))
+
+  pub keeps-slice : (f hi : ℕ) → keeps f hi (length (take n e)) (take n e) ≡ keeps f hi n e
+  keeps-slice f hi = keeps-whole f hi (take n e) ∙ sym (keeps-is f hi n e room)

@@ -13,7 +13,6 @@ use Rattle.std.proofs.Math.Seq.{append_snoc}
 use Rattle.laws.specs.Ascending.{Ascends, ascends_snoc}
 use Rattle.rules.specs.Sender as rules
 use Rattle.rules.specs.Losses as losses
-use Rattle.rules_theorems.proofs.Lists.{insert-ascends}
 
 unfoldable pub nearer : ℕ → List ℕ → List ℕ
 nearer n [] = []

@@ -18,7 +18,7 @@ abbrev turn : (c : After-width) → Turn (lent c)
 turn c = c.loop-reader.invariant.0
 
 is : (c : After-width) → c.width.result ≡ width_of (here (standing (lent c) (turn c)))
-is c = c.width.ensures ∙ ap width_of (c.next-step.ensures.0 ∙ ap here c.loop-reader.invariant.1)
+is c = c.width.ensures ∙ ap width_of (c.next.ensures.0 ∙ ap here c.loop-reader.invariant.1)
 
 same : (c : After-width) → lent c ≡ c.args.words
 same c = ap (λ r. r.words) c.new-reader.ensures
@@ -26,9 +26,9 @@ same c = ap (λ r. r.words) c.new-reader.ensures
 pub loop-reader-init : goal.loop-reader-init
 loop-reader-init c = (turn-first c.new-reader.result.words, rw c.new-reader.ensures, refl)
 
-pub returns-then-width-lt1 : goal.returns-then-width-lt1
-returns-then-width-lt1 c =
-    let a = (goal.at.returns-then-width-lt1 c).After-width in
+pub returns : goal.returns
+returns c =
+    let a = (goal.at.returns c).After-width in
     c.loop-reader.invariant.2
     ∙ turn-ends (lent a) (turn a) (omega (arith, is a))
     ∙ ap (λ (s : Bor (List ℕ)). counts (length s.now) (start s)) (same a)
@@ -44,9 +44,9 @@ loop-reader-smaller c =
     let a = (goal.at.loop-reader-smaller c).After-width in
     let some : 0 < width_of (here (standing (lent a) (turn a))) = omega (arith, is a) in
     let within = (parse-some (lent a).now (turn a).at some).1 in
-    rw (c.next-step.ensures.1, c.loop-reader.invariant.1) (omega arith)
+    rw (c.next.ensures.1, c.loop-reader.invariant.1) (omega arith)
 
 pub loop-reader-preserved : goal.loop-reader-preserved
 loop-reader-preserved c =
     let a = (goal.at.loop-reader-preserved c).After-width in
-    (turn_on (lent a) (turn a) (omega (arith, is a)), c.next-step.ensures.1 ∙ ap moved c.loop-reader.invariant.1, ap (λ (n : ℕ). n + 1) c.loop-reader.invariant.2)
+    (turn_on (lent a) (turn a) (omega (arith, is a)), c.next.ensures.1 ∙ ap moved c.loop-reader.invariant.1, ap (λ (n : ℕ). n + 1) c.loop-reader.invariant.2)

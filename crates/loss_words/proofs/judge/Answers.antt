@@ -1,6 +1,6 @@
 -- `loss_words::judge` meets its contract. At each turn, the items passed and what the rules read from there on make up
 -- the whole report (`Read`).
-use Rattle.std.proofs.Common.{ap, arith, length, sym, ◌+◌, ◌-◌, ◌∙◌, ◌≡◌, ◌≤◌}
+use Rattle.std.proofs.Common.{ap, arith, length, sym, ◌+◌, ◌∙◌, ◌≡◌, ◌≤◌}
 use Rattle.loss_words.specs.Words.{step_at, width_of, judged}
 use Rattle.loss_words.specs.Words.Laws.{read_none, read_on, read_bad, read_all, words_many, words-few, parse-some}
 use Rattle.loss_words.proofs.judge.Goals as goal

@@ -5,19 +5,19 @@
 --   entered-sum                  the numbers of a run can enter in two parts
 --   enter_all-joined             the joined runs enter what the runs enter
 --   count-is                     how many numbers a run has, from its two ends
-use Rattle.std.specs.Prelude.{◌≡◌, Bool, cond, ℕ, zero, suc, ◌+◌, ◌-◌, ◌^◌, ◌≤◌, ◌<◌, min, ltb, eqb}
+use Rattle.std.specs.Prelude.{◌≡◌, Bool, cond, ℕ, zero, suc, ◌+◌, ◌-◌, ◌^◌, ◌≤◌, ◌<◌, min, eqb}
 use Rattle.std.proofs.Math.Path.{refl, ap}
 use Rattle.std.proofs.Common.{sym, ◌∙◌, arith}
 use Rattle.std.proofs.Math.Bool.{true, false, and-eq-true_iff}
 use mathlib.Core.List.{List, [], ◌∷◌, ◌++◌}
-use borrow.Author.Tests.{ltb-true, eqb-true}
+use borrow.Author.Tests.{eqb-true}
 use Rattle.rules_theorems.proofs.Entering.{reach-added}
 use Rattle.rules_numbers.specs.Modular.{seqs, dist}
 use Rattle.rules_numbers.specs.Modular.Laws.{plus-is, dist-plus}
 use Rattle.rules.specs.Numbers.{wire, distance}
 use Rattle.rules_theorems.specs.Laws.Numbers.{wire-below}
 use Rattle.rules.specs.Sender.{Sender, sent_of, insert}
-use Rattle.rules.specs.Losses.{Item, LossKind, Added, Ignored, Dropped, LossRun, kind_by, kind_of, reach_by, reach, stretch, item_runs, runs_of, end_of, is_same_kind, meets, glue, joined, entered, enter_by, enter_all}
+use Rattle.rules.specs.Losses.{Item, LossKind, Added, Ignored, Dropped, LossRun, reach, stretch, item_runs, runs_of, end_of, is_same_kind, meets, glue, joined, entered, enter_by, enter_all}
 use Rattle.loss_words.specs.Runs.{merged}
 use Rattle.loss_words.specs.Runs.Laws.{Numbers, is_same_kind-true}
 

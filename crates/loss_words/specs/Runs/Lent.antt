@@ -1,6 +1,7 @@
 -- Runs in the first words of a lent list, and the list with one more run.
 --   Holds len rs e l                           the list l is e with the len runs rs in its first words
 --   goes_on l len kind first whether the last run in l continues into one of that kind and first number
+--   HasRoom, SameList                          the writer's list: its room, and that it is the same one
 --   Pushed, Written, Accepted                  what the functions that write the answer guarantee and require
 --   holds-none, holds-room, words-length       no runs; room for one more; how many words they take
 --   Last                                       the last run, and the runs before it
@@ -12,6 +13,7 @@ use Rattle.std.proofs.Math.Seq.{append_snoc}
 use Rattle.loss_list.specs.LossList.{over}
 use Rattle.loss_list.specs.LossList.Laws.{set-over}
 use Rattle.rules.specs.Losses.{items, items_of, words_of, LossKind, Added, Ignored, Dropped, LossRun, end_of, is_same_kind, meets}
+use Rattle.loss_words.specs.declared.runs.Runs.{Runs}
 use Rattle.loss_words.specs.Runs.{code_of, words_for, merged, add, add_all}
 use Rattle.loss_words.specs.Runs.Laws.{end-merged}
 
@@ -22,18 +24,27 @@ pub record Holds (len : ℕ) (rs : List LossRun) (e l : List ℕ) : Type 0 where
 abbrev pub goes_on : List ℕ → ℕ → ℕ → ℕ → Bool
 goes_on l len kind first = cond (ltb len 1) false (eqb (get_or l (3 * len - 3) 0) kind && eqb (get_or l (3 * len - 1) 0) first)
 
--- the list l with len runs becomes l' with r runs: one more run, given by its words
-pub record Pushed (len kind first end : ℕ) (l : List ℕ) (r : ℕ) (l' : List ℕ) : Type 0 where
-  pub few : r ≤ len + 1
-  pub same : length l' ≡ length l
-  pub holds : (rs : List LossRun) (e : List ℕ) (q : LossRun) → Holds len rs e l → kind ≡ code_of q.kind → first ≡ q.first → end ≡ end_of q
-      → Holds r (add rs q) e l'
+-- there is room for k more runs
+abbrev pub HasRoom : ℕ → Runs → Type 0
+HasRoom k r = 3 * r.len + 3 * k ≤ length r.list.now
+
+-- the same lent list, so that the lender finds in it what is written here
+pub record SameList (given left : Runs) : Type 0 where
+  pub name : left.list.ghost_name ≡ given.list.ghost_name
+  pub long : length left.list.now ≡ length given.list.now
+
+-- one more run, given by its words
+pub record Pushed (given : Runs) (kind first end : ℕ) (left : Runs) : Type 0 where
+  pub few : left.len ≤ given.len + 1
+  pub same : SameList given left
+  pub holds : (rs : List LossRun) (e : List ℕ) (q : LossRun) → Holds given.len rs e given.list.now → kind ≡ code_of q.kind → first ≡ q.first → end ≡ end_of q
+      → Holds left.len (add rs q) e left.list.now
 
 -- .. with the runs qs added, at most three
-pub record Written (len : ℕ) (qs : List LossRun) (l : List ℕ) (r : ℕ) (l' : List ℕ) : Type 0 where
-  pub few : r ≤ len + 3
-  pub same : length l' ≡ length l
-  pub holds : (rs : List LossRun) (e : List ℕ) → Holds len rs e l → Holds r (add_all rs qs) e l'
+pub record Written (given : Runs) (qs : List LossRun) (left : Runs) : Type 0 where
+  pub few : left.len ≤ given.len + 3
+  pub same : SameList given left
+  pub holds : (rs : List LossRun) (e : List ℕ) → Holds given.len rs e given.list.now → Holds left.len (add_all rs qs) e left.list.now
 
 -- "Room needed: three per item": the words ws are well-formed, and the list l has room for three runs per item
 pub record Accepted (ws l : List ℕ) : Type 0 where
@@ -197,17 +208,20 @@ pub goes_on-some : (l : List ℕ) (len kind first : ℕ) → goes_on l len kind 
 goes_on-some l zero kind first t = absurd (let z : ◌≡◌ {A = ℕ} 0 1 = cc in omega arith)
 goes_on-some l (suc len) kind first t = omega arith
 
-pub push-on : (len kind first end : ℕ) (l : List ℕ) → goes_on l len kind first ≡ true → Pushed len kind first end l len (set l (3 * len - 1) end)
-push-on len kind first end l t = record {
-  few = omega arith;
-  same = length-set l (3 * len - 1) end;
-  holds = λ rs e q H a b d. rw d (pushed-on len rs e l q H (rw (a, b) at t));
-}
+module _ (given : Runs) (kind first end : ℕ) (left : Runs) (name : left.list.ghost_name ≡ given.list.ghost_name) where
+  pub push-on : goes_on given.list.now given.len kind first ≡ true → left.len ≡ given.len → left.list.now ≡ set given.list.now (3 * given.len - 1) end
+      → Pushed given kind first end left
+  push-on t len list = record {
+    few = omega (arith, len);
+    same = record { name = name; long = rw list (length-set given.list.now (3 * given.len - 1) end) };
+    holds = λ rs e q H a b d. rw (len, list, d) (pushed-on given.len rs e given.list.now q H (rw (a, b) at t));
+  }
 
-pub push-new : (len kind first end : ℕ) (l : List ℕ) → goes_on l len kind first ≡ false → 3 * len + 3 ≤ length l
-    → Pushed len kind first end l (len + 1) (set (set (set l (3 * len) kind) (3 * len + 1) first) (3 * len + 2) end)
-push-new len kind first end l t room = record {
-  few = omega arith;
-  same = simp length-set;
-  holds = λ rs e q H a b d. rw (a, b, d) (pushed-new len rs e l q H (rw (a, b) at t) (holds-room H room));
-}
+  pub push-new : goes_on given.list.now given.len kind first ≡ false → HasRoom 1 given → left.len ≡ given.len + 1
+      → left.list.now ≡ set (set (set given.list.now (3 * given.len) kind) (3 * given.len + 1) first) (3 * given.len + 2) end
+      → Pushed given kind first end left
+  push-new t room len list = record {
+    few = omega (arith, len);
+    same = record { name = name; long = rw list (simp length-set) };
+    holds = λ rs e q H a b d. rw (len, list, a, b, d) (pushed-new given.len rs e given.list.now q H (rw (a, b) at t) (holds-room H room));
+  }

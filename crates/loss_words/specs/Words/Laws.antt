@@ -5,7 +5,7 @@
 --   Read ws at n                             n items come before index `at`: the invariant of `judge`
 --   read_none, read_on, read_bad, read_all   at the start, after an item, at a bad one, at the end
 --   words_many, words-few                    over 512 words, and up to 512
-use Rattle.std.specs.Prelude.{◌≡◌, refl, Bool, true, cond, ℕ, suc, ◌+◌, ◌-◌, ◌^◌, ◌≤◌, ◌<◌, ltb, length, drop, get_or}
+use Rattle.std.specs.Prelude.{◌≡◌, refl, Bool, true, cond, ℕ, suc, ◌+◌, ◌-◌, ◌^◌, ◌≤◌, ◌<◌, ltb, length, drop, get_or, Result, Ok, Err}
 use Rattle.std.proofs.Common.{sym, ◌∙◌, add-one, drop_of_length-le, length-drop, drop-cons, drop-drop}
 use Rattle.std.proofs.Math.Path.{ap}
 use Rattle.std.proofs.Math.Bool.{false}
@@ -16,8 +16,8 @@ use Rattle.rules_numbers.specs.Modular.{seqs, dist}
 use Rattle.rules_theorems.specs.Laws.Numbers.{distance-is-dist}
 use Rattle.rules.specs.Losses.{Item, Words, items, bad, before, is_range, parse, words_of}
 use Rattle.loss_words.specs.declared.Step.TheVariants.{One, Range, Bad, End}
-use Rattle.loss_words.specs.declared.Report.{Report}
-use Rattle.loss_words.specs.declared.Report.TheVariants.{Items, BadNak}
+use Rattle.rules_refusals.specs.declared.Refusal.{Refusal}
+use Rattle.rules_refusals.specs.declared.Refusal.TheVariants.{BadNak}
 use Rattle.loss_words.specs.Words.{step, step_at, width_of, item_of, judged}
 
 -- ## What is at an index
@@ -131,9 +131,9 @@ module _ (ws : List ℕ) (at : ℕ) where
 
 -- ## Counting the items
 
-abbrev pub judged_from : ℕ → Words → Report
-judged_from n (items is) = Items (n + length is)
-judged_from n (bad index) = BadNak index
+abbrev pub judged_from : ℕ → Words → Result ℕ Refusal
+judged_from n (items is) = Ok (n + length is)
+judged_from n (bad index) = Err (BadNak index)
 
 judged-none : (w : Words) → judged_from 0 w ≡ judged w
 judged-none (items is) = let e : 0 + length is ≡ length is = omega arith in rw e
@@ -162,14 +162,14 @@ module _ (ws : List ℕ) (at n : ℕ) (R : Read ws at n) where
         rest = sym (judged-before n (item_of (step_at ws at)) (parse (at + width_of (step_at ws at)) (drop (at + width_of (step_at ws at)) ws))) ∙ ap (judged_from n) (sym p.0) ∙ R.rest;
       }
 
-  pub read_bad : at < length ws → width_of (step_at ws at) ≡ 0 → BadNak at ≡ judged (parse 0 ws)
+  pub read_bad : at < length ws → width_of (step_at ws at) ≡ 0 → Err (BadNak at) ≡ judged (parse 0 ws)
   read_bad h e = ap (judged_from n) (sym (parse-none ws at h e)) ∙ R.rest
 
-  pub read_all : length ws ≤ at → Items n ≡ judged (parse 0 ws)
+  pub read_all : length ws ≤ at → Ok n ≡ judged (parse 0 ws)
   unfolding parse
   read_all h =
       let e : n + 0 ≡ n = omega arith in
-      ap Items (sym e) ∙ ap (λ (l : List ℕ). judged_from n (parse at l)) (sym (drop_of_length-le ws h)) ∙ R.rest
+      ap Ok (sym e) ∙ ap (λ (l : List ℕ). judged_from n (parse at l)) (sym (drop_of_length-le ws h)) ∙ R.rest
 
 pub words_many : (ws : List ℕ) → 512 < length ws → words_of ws ≡ bad 512
 unfolding words_of

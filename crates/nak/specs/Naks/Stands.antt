@@ -5,13 +5,11 @@
 --   Answers                    an outcome of the call is an answer of the rules
 --   nak_refines                the call answers and leaves what the rules say
 --   nak-short, nak-broken      if an area is too short; and otherwise, if the books break a rule
-use Rattle.std.specs.Prelude.{◌≡◌, refl, List, ℕ, ◌/◌, ◌^◌, ◌<◌, true, false, eqb, length, get_or}
+use Rattle.std.specs.Prelude.{◌≡◌, refl, List, ℕ, ◌/◌, ◌^◌, ◌<◌, true, false, eqb, length, get_or, Result, Ok, Err}
 use Rattle.std.proofs.Common.{sym, ◌∙◌}
 use Rattle.rules_refusals.specs.declared.Refusal.TheVariants.{BadStore, BadState}
-use Rattle.rules_refusals.specs.declared.Verdict.{Verdict}
-use Rattle.rules_refusals.specs.declared.Verdict.TheVariants as verdict
 use Rattle.rules_refusals.specs.Table.{number_of}
-use Rattle.rules_refusals.specs.Verdict.{answer}
+use Rattle.rules_refusals.specs.Verdict.{Verdict, accepted, answer}
 use Rattle.laws.specs.Choice.{cond-by}
 use Rattle.rules.specs.Settings.{Settings}
 use Rattle.rules.specs.Sender as rules
@@ -26,27 +24,26 @@ use Rattle.buffer_nak.specs.Report.Stands as Report
 use Rattle.sender.specs.declared.Sender.{Sender}
 use Rattle.sender.specs.SenderAndAreas.{Books, books, rules_of, areas_short, kept, judge}
 use Rattle.sender.specs.SenderAndAreas.Stands.{StandsFor, areas-long, judge-accepted, judge-short, judge-broken}
-use Rattle.nak.specs.declared.Reported.{Reported}
-use Rattle.nak.specs.declared.Reported.TheVariants.{Done, Refused}
 use Rattle.nak.specs.Naks.{nak_verdict, Naks, naks, nak_by, nak}
 use Rattle.nak.specs.Naks.Laws.{words-fine}
+use Rattle.rules_refusals.specs.declared.Refusal.{Refusal}
 
-abbrev pub verdict_of : Reported → Verdict
-verdict_of (Done s n) = verdict.Accepted
-verdict_of (Refused r) = verdict.Refused r
+abbrev pub verdict_of : Result (Sender × ℕ) Refusal → Verdict
+verdict_of (Ok (s, n)) = accepted
+verdict_of (Err r) = Err r
 
-abbrev pub sender_after : Sender → Reported → Sender
-sender_after s (Done t n) = t
-sender_after s (Refused r) = s
+abbrev pub sender_after : Sender → Result (Sender × ℕ) Refusal → Sender
+sender_after s (Ok (t, n)) = t
+sender_after s (Err r) = s
 
 pub record Listed (n : ℕ) (out after : List ℕ) (said : calls.Said) : Type 0 where
   pub runs : List LossRun
   pub is : said ≡ calls.Reported runs
   pub holds : Holds n runs out after
 
-abbrev pub Says : Reported → List ℕ → List ℕ → calls.Said → Type 0
-Says (Done s n) out after said = Listed n out after said
-Says (Refused r) out after said = (said ≡ calls.Nothing) × (after ≡ out)
+abbrev pub Says : Result (Sender × ℕ) Refusal → List ℕ → List ℕ → calls.Said → Type 0
+Says (Ok (s, n)) out after said = Listed n out after said
+Says (Err r) out after said = (said ≡ calls.Nothing) × (after ≡ out)
 
 -- the outcome l of the call is the answer a of the rules
 pub record Answers (g : Books) (list : List ℕ) (l : Naks) (a : calls.Answer) : Type 0 where
@@ -69,14 +66,14 @@ module _ (g : Books) (s : rules.Sender) (S : StandsFor g s) (K : Kept (rules_of 
       answer-by c call s (λ (a : calls.Answer). a.after.pacing ≡ s.pacing)
       (λ r e. cond-by (λ (t : rules.Sender). t.pacing ≡ s.pacing) (eqb (number_of r) 11) s s (λ q. refl) (λ q. refl)) (λ e. refl)
 
-  judged : judge (areas_short c (length g.ring) (length g.lost)) g ≡ verdict.Accepted
+  judged : judge (areas_short c (length g.ring) (length g.lost)) g ≡ accepted
   judged = judge-accepted g s S K (areas_short c (length g.ring) (length g.lost)) (areas-long g s S)
 
   verdict-is : rulesVerdict c ws (length out / 3) s ≡ words_verdict (words_of ws) (length out / 3)
   unfolding rulesVerdict
   verdict-is = rw (facts_kept c s K)
 
-  taken : words_verdict (words_of ws) (length out / 3) ≡ verdict.Accepted
+  taken : words_verdict (words_of ws) (length out / 3) ≡ accepted
       → Answers g out (nak_by g.sender (add g.sender.buffer ws g.lost out)) (calls.answer c call s)
   taken e =
       let fine = words-fine (words_of ws) (length out / 3) e in
@@ -89,10 +86,10 @@ module _ (g : Books) (s : rules.Sender) (S : StandsFor g s) (K : Kept (rules_of 
       }
 
   by-verdict : (v : Verdict) → words_verdict (words_of ws) (length out / 3) ≡ v
-      → Answers g out (answer (λ r. naks (Refused r) g.lost out) v (nak_by g.sender (add g.sender.buffer ws g.lost out))) (calls.answer c call s)
+      → Answers g out (answer (λ r. naks (Err r) g.lost out) v (nak_by g.sender (add g.sender.buffer ws g.lost out))) (calls.answer c call s)
   unfolding calls.answer calls.verdict_of calls.answer_by calls.left calls.with_rtt
-  by-verdict verdict.Accepted e = taken e
-  by-verdict (verdict.Refused r) e =
+  by-verdict (Ok _) e = taken e
+  by-verdict (Err r) e =
       rw (verdict-is ∙ e)
       (record { verdict = refl; said = (refl, refl); settings = refl; stands = cond-by (StandsFor g) (eqb (number_of r) 11) s s (λ q. S) (λ q. S) })
 
@@ -101,11 +98,11 @@ module _ (g : Books) (s : rules.Sender) (S : StandsFor g s) (K : Kept (rules_of 
   nak_refines = rw judged (by-verdict (words_verdict (words_of ws) (length out / 3)) refl)
 
 module _ (g : Books) (ws out : List ℕ) where
-  pub nak-short : areas_short (rules_of g) (length g.ring) (length g.lost) ≡ true → nak g ws out ≡ naks (Refused BadStore) g.lost out
+  pub nak-short : areas_short (rules_of g) (length g.ring) (length g.lost) ≡ true → nak g ws out ≡ naks (Err BadStore) g.lost out
   unfolding nak nak_verdict
   nak-short e = rw (e, judge-short g)
 
   pub nak-broken : areas_short (rules_of g) (length g.ring) (length g.lost) ≡ false → kept g ≡ false
-      → nak g ws out ≡ naks (Refused BadState) g.lost out
+      → nak g ws out ≡ naks (Err BadState) g.lost out
   unfolding nak nak_verdict
   nak-broken e b = rw (e, judge-broken g b)

@@ -1,6 +1,6 @@
 -- `numbers::distance` meets its contract: the difference wraps at 32 bits, and the remainder cuts it to 31
 -- (`dist_wrapped`).
-use Rattle.std.proofs.Common.{lit<, refl, ◌^◌}
+use Rattle.std.proofs.Common.{rules, lit<, refl, ◌^◌, ◌≤◌}
 use Rattle.rules_numbers.specs.Modular.{seqs}
 use Rattle.numbers.proofs.Wrapped.{dist_wrapped}
 use Rattle.numbers.proofs.distance.Goals as goal
@@ -8,4 +8,5 @@ use Rattle.numbers.proofs.distance.Goals as goal
 pub returns : goal.returns
 returns c =
     let a = c.args in
-    dist_wrapped seqs (2 ^ 32) a.from.0 a.to.0 c.wrapping_sub_u32.result (lit< tt) refl c.wrapping_sub_u32.ensures.value
+    let word : a.from.0 ≤ 2 ^ 32 = search rules in
+    dist_wrapped seqs (2 ^ 32) a.from.0 a.to.0 (lit< tt) refl word

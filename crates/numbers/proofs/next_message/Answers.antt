@@ -5,4 +5,4 @@ use Rattle.numbers.proofs.Wrapped.{plus_wrapped}
 use Rattle.numbers.proofs.next_message.Goals as goal
 
 pub returns : goal.returns
-returns c = plus_wrapped msgs (2 ^ 32) c.args.n.0 1 c.wrapping_add_u32.result refl c.wrapping_add_u32.ensures.value
+returns c = plus_wrapped msgs (2 ^ 32) c.args.n.0 1 refl

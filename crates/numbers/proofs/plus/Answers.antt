@@ -5,4 +5,4 @@ use Rattle.numbers.proofs.Wrapped.{plus_wrapped}
 use Rattle.numbers.proofs.plus.Goals as goal
 
 pub returns : goal.returns
-returns c = plus_wrapped seqs (2 ^ 32) c.args.from.0 c.args.k c.wrapping_add_u32.result refl c.wrapping_add_u32.ensures.value
+returns c = plus_wrapped seqs (2 ^ 32) c.args.from.0 c.args.k refl

@@ -2,13 +2,11 @@
 --   Kept s, NextRanged       the book rules as facts; next's
 --   kept_facts, facts_kept   the test decides the facts, both ways
 --   fresh_kept               new pacing keeps the rules
-use Rattle.std.specs.Prelude.{◌≡◌, refl, true, ◌&&◌, ◌^◌, ◌<◌}
+use Rattle.std.specs.Prelude.{◌≡◌, refl, true, ◌&&◌, ◌^◌, ◌<◌, Option, Some, None, ℕ}
 use Rattle.std.proofs.Math.Bool.{and-eq-true_iff}
 use Prim.{Unit}
 use Rattle.std.proofs.Common.{ltb-true, lt-ltb}
 use Rattle.rules_pacing.specs.declared.LiveBandwidthMode.{LiveBandwidthMode}
-use Rattle.rules_pacing.specs.declared.Next.{Next}
-use Rattle.rules_pacing.specs.declared.Next.TheVariants.{Unset, At}
 use Rattle.rules_pacing.specs.declared.SenderCongestionControl.{SenderCongestionControl}
 use Rattle.rules_pacing.specs.Rate.{in_range}
 use Rattle.rate.specs.Laws.{Ranged, in_range-ranged, ranged-in_range}
@@ -16,9 +14,9 @@ use Rattle.rules_pacing.specs.Period.{mode_in_range}
 use Rattle.pacing.specs.Laws.Period.{ModeRanged, mode_in_range-ranged, ranged-mode_in_range}
 use Rattle.rules_pacing.specs.Kept.{next_in_range, kept, fresh}
 
-abbrev pub NextRanged : Next → Type 0
-NextRanged Unset = Unit
-NextRanged (At next) = next < 2 ^ 49
+abbrev pub NextRanged : Option ℕ → Type 0
+NextRanged None = Unit
+NextRanged (Some next) = next < 2 ^ 49
 
 pub record Kept (s : SenderCongestionControl) : Type 0 where
   pub next : NextRanged s.next
@@ -26,13 +24,13 @@ pub record Kept (s : SenderCongestionControl) : Type 0 where
   pub bytes : Ranged s.bytes
   pub mode : ModeRanged s.bandwidth_mode
 
-next_in_range-ranged : (n : Next) → next_in_range n ≡ true → NextRanged n
-next_in_range-ranged Unset h = tt
-next_in_range-ranged (At next) h = ltb-true _ _ h
+next_in_range-ranged : (n : Option ℕ) → next_in_range n ≡ true → NextRanged n
+next_in_range-ranged None h = tt
+next_in_range-ranged (Some next) h = ltb-true _ _ h
 
-ranged-next_in_range : (n : Next) → NextRanged n → next_in_range n ≡ true
-ranged-next_in_range Unset h = refl
-ranged-next_in_range (At next) h = lt-ltb _ _ h
+ranged-next_in_range : (n : Option ℕ) → NextRanged n → next_in_range n ≡ true
+ranged-next_in_range None h = refl
+ranged-next_in_range (Some next) h = lt-ltb _ _ h
 
 pub kept_facts : (s : SenderCongestionControl) → kept s ≡ true → Kept s
 unfolding kept

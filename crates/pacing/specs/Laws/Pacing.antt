@@ -6,17 +6,14 @@
 --   moved-room                     and there is room for what it adds
 --   Moves, Ahead, after-ahead      after a first input, and after an estimate, next lies past now, by at most 100,000
 --                                  µs
-use Rattle.std.specs.Prelude.{◌≡◌, refl, Bool, cond, ℕ, ◌+◌, ◌^◌, ◌<◌, ◌≤◌, leb}
+use Rattle.std.specs.Prelude.{◌≡◌, refl, Bool, cond, ℕ, ◌+◌, ◌^◌, ◌<◌, ◌≤◌, leb, Option, Some, None, Ok}
 use Rattle.std.proofs.Math.Bool.{true, false}
 use mathlib.Mathlib.Data.Bool.Basic.{or-eq-false-eq-eq-false-and-eq-false as neither}
 use Prim.{Unit}
 use native.Mathlib.Omega.{arith}
 use borrow.Author.Tests.{ltb-false, le-ltb, leb-true, le-leb, lt-leb}
 use Rattle.laws.specs.Choice.{cond-by}
-use Rattle.rules_pacing.specs.declared.Next.{Next}
-use Rattle.rules_pacing.specs.declared.Next.TheVariants.{Unset, At}
 use Rattle.rules_pacing.specs.declared.SenderCongestionControl.{SenderCongestionControl}
-use Rattle.rules_pacing.specs.declared.Paced.TheVariants.{Silent, Period}
 use Rattle.rules_pacing.specs.Rate.{elapsed, estimate, passes}
 use Rattle.rate.specs.Laws.{estimate-ranged, increment-ranged}
 use Rattle.rules_pacing.specs.Kept.{kept}
@@ -30,13 +27,13 @@ pub record Accepted (s : SenderCongestionControl) (now p b : ℕ) : Type 0 where
   pub bytes : since s.next now s.bytes.count + b ≤ 2 ^ 38
 
 -- the first input, or one that finds an estimate due
-abbrev pub Moves : Next → ℕ → Type 0
-Moves Unset now = Unit
-Moves (At next) now = next ≤ now
+abbrev pub Moves : Option ℕ → ℕ → Type 0
+Moves None now = Unit
+Moves (Some next) now = next ≤ now
 
-abbrev pub Ahead : ℕ → Next → Type 0
-Ahead now Unset = ⊥
-Ahead now (At next) = (now < next) × (next ≤ now + 100_000)
+abbrev pub Ahead : ℕ → Option ℕ → Type 0
+Ahead now None = ⊥
+Ahead now (Some next) = (now < next) × (next ≤ now + 100_000)
 
 abbrev Counts : SenderCongestionControl → ℕ → ℕ → Type 0
 Counts s p b = (s.packets.count ≡ p) × (s.bytes.count ≡ b)
@@ -66,18 +63,18 @@ module _ (s : SenderCongestionControl) (now : ℕ) where
   unfolding moved moved_at
   moved-kept h ht = at s.next
     where
-      at : (n : Next) → Kept (moved_at n s now)
-      at Unset = record { next = omega arith; packets = h.packets; bytes = h.bytes; mode = h.mode }
-      at (At next) = cond-by Kept (leb next now) (estimated s next now) s (λ t. estimated-kept s next now h (leb-true _ _ t) ht) (λ _. h)
+      at : (n : Option ℕ) → Kept (moved_at n s now)
+      at None = record { next = omega arith; packets = h.packets; bytes = h.bytes; mode = h.mode }
+      at (Some next) = cond-by Kept (leb next now) (estimated s next now) s (λ t. estimated-kept s next now h (leb-true _ _ t) ht) (λ _. h)
 
   -- the counts once next has moved are those that `count_full` tests
   moved-since : Counts (moved s now) (since s.next now s.packets.count) (since s.next now s.bytes.count)
   unfolding moved moved_at
   moved-since = at s.next
     where
-      at : (n : Next) → Counts (moved_at n s now) (since n now s.packets.count) (since n now s.bytes.count)
-      at Unset = (refl, refl)
-      at (At next) = estimated-since s next now (leb next now)
+      at : (n : Option ℕ) → Counts (moved_at n s now) (since n now s.packets.count) (since n now s.bytes.count)
+      at None = (refl, refl)
+      at (Some next) = estimated-since s next now (leb next now)
 
 module _ (s : SenderCongestionControl) (now p b : ℕ) where
   pub accepted : kept s ≡ true → now < 2 ^ 48 → count_full s now p b ≡ false → Accepted s now p b
@@ -90,11 +87,11 @@ module _ (s : SenderCongestionControl) (now p b : ℕ) where
   unfolding on_input count_full
   on_input-accepted h = rw (facts_kept s h.kept, lt-leb _ _ h.time, le-ltb _ _ h.packets, le-ltb _ _ h.bytes)
 
-  pub input-due : due s.next now ≡ true → input s now p b ≡ Period (snd_period (moved s now)) (after s now p b)
+  pub input-due : due s.next now ≡ true → input s now p b ≡ Ok (Some (snd_period (moved s now)), after s now p b)
   unfolding input
   input-due d = rw d
 
-  pub input_silent : due s.next now ≡ false → input s now p b ≡ Silent (after s now p b)
+  pub input_silent : due s.next now ≡ false → input s now p b ≡ Ok (None, after s now p b)
   unfolding input
   input_silent d = rw d
 
@@ -118,6 +115,6 @@ module _ (s : SenderCongestionControl) (now p b : ℕ) where
   unfolding after added moved moved_at
   after-ahead = at s.next
     where
-      at : (n : Next) → Moves n now → Ahead now (moved_at n s now).next
-      at Unset h = omega arith
-      at (At next) h = rw (le-leb next now h) (estimated-ahead s next now h)
+      at : (n : Option ℕ) → Moves n now → Ahead now (moved_at n s now).next
+      at None h = omega arith
+      at (Some next) h = rw (le-leb next now h) (estimated-ahead s next now h)

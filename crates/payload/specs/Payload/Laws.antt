@@ -1,19 +1,16 @@
 -- What the code of the look-up requires, and that it agrees with its definition.
---   HeldFits size f, held_fits   the flushed packet's place can be computed without overflow
---   flushed_as                   the look-up of the flushed packet, by cases
+--   HeldFits size f              the flushed packet's place can be computed without overflow
+--   held_fits, flushed_as        the same for an equal flushed packet, and the same look-up; no code cites them now
 --   Findable s ring, findable    the books are a sender's; they are if 2, 3 and 7 don't apply
 --   Finding, finding             the bounds that follow
---   judge-payload-is             the code's tests
+--   judge-payload-is             a chain of the tests is the verdict; no code cites it now
 --   find_buffered, find_other    among the buffered packets, or not
-use Rattle.std.specs.Prelude.{◌≡◌, true, ◌||◌, List, ℕ, ◌*◌, ◌^◌, ◌≤◌, ◌<◌, leb}
+use Rattle.std.specs.Prelude.{◌≡◌, true, ◌||◌, List, ℕ, ◌*◌, ◌^◌, ◌≤◌, ◌<◌, leb, Option, Some, None, Result, Ok}
 use Rattle.std.proofs.Common.{sym, ap, ◌∙◌, arith}
-use Rattle.std.proofs.Math.Option.{Option, none, some}
 use borrow.Author.Tests.{lt-ltb, le-ltb}
 use Rattle.rules_numbers.specs.Modular.{seqs, dist}
 use Rattle.rules_refusals.specs.declared.Refusal.TheVariants.{BadNumber}
-use Rattle.rules_refusals.specs.declared.Verdict.{Verdict}
-use Rattle.rules_refusals.specs.declared.Verdict.TheVariants.{Accepted}
-use Rattle.rules_refusals.specs.Verdict.{when}
+use Rattle.rules_refusals.specs.Verdict.{Verdict, accepted, when}
 use Rattle.ring.specs.declared.Entry.{Entry}
 use Rattle.ring.specs.Entry.{read_e}
 use Rattle.ring.specs.Ring.{slot_of}
@@ -21,8 +18,6 @@ use Rattle.ring.specs.Ring.Laws.{Placed}
 use Rattle.rules.specs.Settings.{Settings}
 use Rattle.rules.specs.Sender as rules
 use Rattle.rules_theorems.specs.Laws.BookRules.{HeldIn}
-use Rattle.buffer.specs.declared.Flushed.{Flushed}
-use Rattle.buffer.specs.declared.Flushed.TheVariants as flushed
 use Rattle.buffer.specs.State.{state, settings_of}
 use Rattle.buffer.specs.State.Facts.{stands_facts}
 use Rattle.buffer.specs.State.Stands.{HeldAs}
@@ -33,18 +28,19 @@ use Rattle.sender.specs.SenderAndAreas.{Books, judge}
 use Rattle.sender.specs.SenderAndAreas.Laws.{judged}
 use Rattle.sender.specs.Calls.{short_for, then, judge_with_store}
 use Rattle.sender.specs.Calls.Laws.{then-accepted}
-use Rattle.payload.specs.declared.Found.{Found}
-use Rattle.payload.specs.declared.Found.TheVariants.{Held}
 use Rattle.payload.specs.Payload.{flushed_at, find_in, payload_verdict}
+use Rattle.rules_refusals.specs.declared.Refusal.{Refusal}
+use Rattle.buffer.specs.declared.FlushedPacket.{FlushedPacket}
+use Rattle.payload.specs.declared.Lies.{Lies}
 
-abbrev pub HeldFits : ℕ → Flushed → Type 0
-HeldFits size flushed.Nothing = Unit {0}
-HeldFits size (flushed.Held n slot len) = (slot ≤ 8_192) × (size ≤ 1_456)
+abbrev pub HeldFits : ℕ → Option FlushedPacket → Type 0
+HeldFits size None = Unit {0}
+HeldFits size (Some p) = (p.slot ≤ 8_192) × (size ≤ 1_456)
 
-pub held_fits : (size : ℕ) (f x : Flushed) → f ≡ x → HeldFits size f → HeldFits size x
+pub held_fits : (size : ℕ) (f x : Option FlushedPacket) → f ≡ x → HeldFits size f → HeldFits size x
 held_fits size f x e h = rw e at h
 
-pub flushed_as : (size number : ℕ) (f x : Flushed) (r : Found) → f ≡ x → r ≡ flushed_at size number x → r ≡ flushed_at size number f
+pub flushed_as : (size number : ℕ) (f x : Option FlushedPacket) (r : Result Lies Refusal) → f ≡ x → r ≡ flushed_at size number x → r ≡ flushed_at size number f
 flushed_as size number f x r e h = h ∙ ap (flushed_at size number) (sym e)
 
 pub record Findable (s : Sender) (ring : List ℕ) : Type 0 where
@@ -56,10 +52,10 @@ pub record Finding (s : Sender) (ring : List ℕ) : Type 0 where
   pub size : s.settings.size ≤ 1_456
   pub held : HeldFits s.settings.size s.buffer.flushed
 
-flushed-fits : (c : Settings) (f : Flushed) (h : Option rules.Held) → c.buffer ≤ 8_192 → c.size ≤ 1_456 → HeldAs f h → HeldIn c h → HeldFits c.size f
-flushed-fits c flushed.Nothing h b z A H = tt
-flushed-fits c (flushed.Held n slot len) none b z A H = absurd A
-flushed-fits c (flushed.Held n slot len) (some h) b z A H = (omega (arith, A.1, H.0), z)
+flushed-fits : (c : Settings) (f : Option FlushedPacket) (h : Option rules.Held) → c.buffer ≤ 8_192 → c.size ≤ 1_456 → HeldAs f h → HeldIn c h → HeldFits c.size f
+flushed-fits c None h b z A H = tt
+flushed-fits c (Some p) None b z A H = absurd A
+flushed-fits c (Some p) (Some h) b z A H = (omega (arith, A.1, H.0), z)
 
 pub finding : (s : Sender) (ring : List ℕ) → Findable s ring → Finding s ring
 finding s ring F =
@@ -74,24 +70,24 @@ finding s ring F =
 
 module _ (g : Books) (n store : ℕ) where
   pub judge-payload-is : (state brought v : Verdict) → state ≡ judge_with_store g store
-      → brought ≡ when (leb (2 ^ 31) n) BadNumber Accepted
+      → brought ≡ when (leb (2 ^ 31) n) BadNumber accepted
       → v ≡ then state brought
       → v ≡ payload_verdict g n store
   unfolding payload_verdict
   judge-payload-is state brought v h k m = m ∙ rw (h, k)
 
-  pub findable : payload_verdict g n store ≡ Accepted → Findable g.sender g.ring
+  pub findable : payload_verdict g n store ≡ accepted → Findable g.sender g.ring
   unfolding payload_verdict
   findable e =
-      let both = then-accepted (judge (short_for g store) g) (when (leb (2 ^ 31) n) BadNumber Accepted) e in
+      let both = then-accepted (judge (short_for g store) g) (when (leb (2 ^ 31) n) BadNumber accepted) e in
       record { lost = g.lost; kept = (judged (short_for g store) g both.0).buffer }
 
 module _ (s : Sender) (number : ℕ) (ring : List ℕ) (d : ℕ) (e : d ≡ dist seqs s.buffer.front.0 number) where
   pub find_buffered : d < s.buffer.ring.len → (x : Entry) (p : ℕ) → x ≡ read_e ring (slot_of s.buffer.ring d) → p ≡ slot_of s.buffer.ring d
-      → Held (record { place = p * s.settings.size; len = x.len }) ≡ find_in s number ring
+      → Ok (record { place = p * s.settings.size; len = x.len }) ≡ find_in s number ring
   unfolding find_in
   find_buffered h x p f k = rw (← e, lt-ltb d s.buffer.ring.len h, f, k)
 
-  pub find_other : s.buffer.ring.len ≤ d → (r : Found) → r ≡ flushed_at s.settings.size number s.buffer.flushed → r ≡ find_in s number ring
+  pub find_other : s.buffer.ring.len ≤ d → (r : Result Lies Refusal) → r ≡ flushed_at s.settings.size number s.buffer.flushed → r ≡ find_in s number ring
   unfolding find_in
   find_other h r f = f ∙ rw (← e, le-ltb d s.buffer.ring.len h)

@@ -4,21 +4,18 @@
 --   found-is                        buffered or flushed, or neither
 --   Answers, payload_refines        the call answers what the rules say, and they don't change the sender
 --   payload-short, payload-broken   if an area is too short; and otherwise, if the books break a rule
-use Rattle.std.specs.Prelude.{◌≡◌, Bool, cond, ℕ, ◌+◌, ◌-◌, ◌*◌, ◌%◌, ◌^◌, ◌≤◌, ◌<◌, leb, eqb, length}
+use Rattle.std.specs.Prelude.{◌≡◌, Bool, cond, ℕ, ◌+◌, ◌-◌, ◌*◌, ◌%◌, ◌^◌, ◌≤◌, ◌<◌, leb, eqb, length, Option, Some, None, Result, Ok, Err}
 use Rattle.std.proofs.Math.Path.{refl, sym, ap}
 use Rattle.std.proofs.Common.{◌∙◌}
 use Rattle.std.proofs.Math.Bool.{true, false}
 use mathlib.Core.List.{List}
-use Rattle.std.proofs.Math.Option.{Option, none, some}
 use Rattle.std.proofs.Math.Decide.{dec_lt}
 use native.Mathlib.Omega.{arith}
 use Rattle.std.proofs.Math.ListN.{get_or}
 use borrow.Author.Tests.{lt-ltb, le-ltb, leb-false}
 use Rattle.rules_numbers.specs.Modular.{seqs, dist}
 use Rattle.rules_refusals.specs.declared.Refusal.TheVariants.{BadStore, BadState, BadNumber, NotHeld}
-use Rattle.rules_refusals.specs.declared.Verdict.{Verdict}
-use Rattle.rules_refusals.specs.declared.Verdict.TheVariants as verdict
-use Rattle.rules_refusals.specs.Verdict.{when, answer}
+use Rattle.rules_refusals.specs.Verdict.{Verdict, accepted, when, answer}
 use Rattle.ring.specs.Entry.{read_e}
 use Rattle.ring.specs.Ring.{slot_of}
 use Rattle.rules.specs.Numbers.{wire, distance}
@@ -27,11 +24,9 @@ use Rattle.rules.specs.Settings.{Settings, capacity, place_of, store_size}
 use Rattle.rules.specs.Sender as rules
 use Rattle.rules.specs.Sender.{Packet, nothing, packet, push_of}
 use Rattle.rules_theorems.specs.Laws.BookRules.{Kept, facts_kept}
-use Rattle.rules.specs.Reports.{Lies, held_of, payload_of}
+use Rattle.rules.specs.Reports.{Lies as RulesLies, held_of, payload_of}
 use Rattle.rules.specs.Refusals.{lies_verdict, payload_verdict as rulesVerdict}
 use Rattle.rules.specs.Calls as calls
-use Rattle.buffer.specs.declared.Flushed.{Flushed}
-use Rattle.buffer.specs.declared.Flushed.TheVariants as flushed
 use Rattle.buffer.specs.State.{packet_of}
 use Rattle.buffer.specs.State.Reports.{packets-is}
 use Rattle.buffer.specs.State.Stands.{HeldAs}
@@ -40,32 +35,33 @@ use Rattle.buffer.specs.State.Slots.{slot-push}
 use Rattle.sender.specs.SenderAndAreas.{Books, rules_of, store_short, kept, judge}
 use Rattle.sender.specs.SenderAndAreas.Stands.{StandsFor, areas-long, judge-accepted, judge-short, judge-broken}
 use Rattle.sender.specs.Calls.{short_for}
-use Rattle.payload.specs.declared.Found.{Found}
-use Rattle.payload.specs.declared.Found.TheVariants.{Held, Refused}
+use Rattle.payload.specs.declared.Lies.{Lies}
 use Rattle.payload.specs.Payload.{flushed_at, find_in, payload_verdict, payload}
 use Rattle.payload.specs.Payload.Laws.{find_buffered, find_other}
+use Rattle.rules_refusals.specs.declared.Refusal.{Refusal}
+use Rattle.buffer.specs.declared.FlushedPacket.{FlushedPacket}
 
-abbrev pub found_of : Option Lies → Found
-found_of none = Refused NotHeld
-found_of (some l) = Held (record { place = l.place; len = l.len })
+abbrev pub found_of : Option RulesLies → Result Lies Refusal
+found_of None = Err NotHeld
+found_of (Some l) = Ok (record { place = l.place; len = l.len })
 
-abbrev pub verdict_of : Found → Verdict
-verdict_of (Held l) = verdict.Accepted
-verdict_of (Refused r) = verdict.Refused r
+abbrev pub verdict_of : Result Lies Refusal → Verdict
+verdict_of (Ok l) = accepted
+verdict_of (Err r) = Err r
 
-abbrev pub said_of : Found → calls.Said
-said_of (Held l) = calls.Found (some (record { place = l.place; len = l.len }))
-said_of (Refused r) = calls.Nothing
+abbrev pub said_of : Result Lies Refusal → calls.Said
+said_of (Ok l) = calls.Found (Some (record { place = l.place; len = l.len }))
+said_of (Err r) = calls.Nothing
 
-flushed-is : (c : Settings) (n : ℕ) (f : Flushed) (h : Option rules.Held) → HeldAs f h → flushed_at c.size n f ≡ found_of (held_of c h n)
+flushed-is : (c : Settings) (n : ℕ) (f : Option FlushedPacket) (h : Option rules.Held) → HeldAs f h → flushed_at c.size n f ≡ found_of (held_of c h n)
 unfolding held_of
-flushed-is c n flushed.Nothing none A = refl
-flushed-is c n flushed.Nothing (some h) A = absurd A
-flushed-is c n (flushed.Held m slot len) none A = absurd A
-flushed-is c n (flushed.Held m slot len) (some h) A = rw (A.0, A.1, A.2) (go (eqb (wire h.number) n))
+flushed-is c n None None A = refl
+flushed-is c n None (Some h) A = absurd A
+flushed-is c n (Some p) None A = absurd A
+flushed-is c n (Some p) (Some h) A = rw (A.0, A.1, A.2) (go (eqb (wire h.number) n))
   where
-    go : (t : Bool) → cond t (Held (record { place = h.slot * c.size; len = h.len })) (Refused NotHeld)
-        ≡ found_of (cond t (some (record { place = h.slot * c.size; len = h.len })) none)
+    go : (t : Bool) → cond t (Ok (record { place = h.slot * c.size; len = h.len })) (Err NotHeld)
+        ≡ found_of (cond t (Some (record { place = h.slot * c.size; len = h.len })) None)
     go true = refl
     go false = refl
 
@@ -86,7 +82,7 @@ module _ (g : Books) (s : rules.Sender) (S : StandsFor g s) (n : ℕ) where
       let at = sym (packets-at g.sender.buffer.ring g.ring d h) ∙ ap (λ (l : List Packet). get_or l d nothing) S.buffer.packets in
       rw e (ap (λ (p : Packet). p.len) at)
 
-  near : d < length s.packets → payload_of c s n ≡ some (record { place = place_of c (push_of s (s.front + d)); len = (packet s (s.front + d)).len })
+  near : d < length s.packets → payload_of c s n ≡ Some (record { place = place_of c (push_of s (s.front + d)); len = (packet s (s.front + d)).len })
   unfolding payload_of
   near h = rw (lt-ltb d (length s.packets) h)
 
@@ -110,7 +106,7 @@ module _ (g : Books) (s : rules.Sender) (S : StandsFor g s) (n : ℕ) where
             ∙ flushed-is c n g.sender.buffer.flushed s.held S.buffer.others.held ∙ ap found_of (sym (far (omega (arith, packets-is S.buffer))))
 
 -- the outcome f of the call is the answer a of the rules, which don't change s
-pub record Answers (s : rules.Sender) (f : Found) (a : calls.Answer) : Type 0 where
+pub record Answers (s : rules.Sender) (f : Result Lies Refusal) (a : calls.Answer) : Type 0 where
   pub verdict : verdict_of f ≡ a.verdict
   pub said : said_of f ≡ a.said
   pub same : a.after ≡ s
@@ -126,16 +122,16 @@ module _ (g : Books) (s : rules.Sender) (S : StandsFor g s) (K : Kept (rules_of 
   unfolding store_short
   store_long = rw (K.fields.settings, le-ltb (length store) (store_size k) room)
 
-  judged : judge (short_for g (length store)) g ≡ verdict.Accepted
+  judged : judge (short_for g (length store)) g ≡ accepted
   judged = judge-accepted g s S K (short_for g (length store)) (rw (areas-long g s S, store_long))
 
-  by-lies : (l : Option Lies) → payload_of k s n ≡ l → Answers s (found_of l) (calls.answer_by k (lies_verdict l) call s)
+  by-lies : (l : Option RulesLies) → payload_of k s n ≡ l → Answers s (found_of l) (calls.answer_by k (lies_verdict l) call s)
   unfolding calls.answer_by calls.left calls.said_by calls.after lies_verdict
-  by-lies none e = record { verdict = refl; said = refl; same = refl }
-  by-lies (some l) e = record { verdict = refl; said = ap calls.Found (sym e); same = refl }
+  by-lies None e = record { verdict = refl; said = refl; same = refl }
+  by-lies (Some l) e = record { verdict = refl; said = ap calls.Found (sym e); same = refl }
 
   go : (t : Bool) → leb (2 ^ 31) n ≡ t
-      → Answers s (answer Refused (when t BadNumber verdict.Accepted) (find_in g.sender n g.ring)) (calls.answer_by k (when t BadNumber (lies_verdict (payload_of k s n))) call s)
+      → Answers s (answer Err (when t BadNumber accepted) (find_in g.sender n g.ring)) (calls.answer_by k (when t BadNumber (lies_verdict (payload_of k s n))) call s)
   unfolding calls.answer_by calls.left
   go true e = record { verdict = refl; said = refl; same = refl }
   go false e = rw (found-is g s S n (leb-false (2 ^ 31) n e)) (by-lies (payload_of k s n) refl)
@@ -145,10 +141,10 @@ module _ (g : Books) (s : rules.Sender) (S : StandsFor g s) (K : Kept (rules_of 
   payload_refines = rw (judged, facts_kept k s K) (go (leb (2 ^ 31) n) refl)
 
 module _ (g : Books) (n : ℕ) (store : List ℕ) where
-  pub payload-short : short_for g (length store) ≡ true → payload g n store ≡ Refused BadStore
+  pub payload-short : short_for g (length store) ≡ true → payload g n store ≡ Err BadStore
   unfolding payload payload_verdict
   payload-short e = rw (e, judge-short g)
 
-  pub payload-broken : short_for g (length store) ≡ false → kept g ≡ false → payload g n store ≡ Refused BadState
+  pub payload-broken : short_for g (length store) ≡ false → kept g ≡ false → payload g n store ≡ Err BadState
   unfolding payload payload_verdict
   payload-broken e b = rw (e, judge-broken g b)

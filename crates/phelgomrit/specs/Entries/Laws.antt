@@ -9,14 +9,14 @@
 --   refused-enters            "A refusal changes nothing lent or kept": no number that the host keeps, no word of the
 --                             areas or of the store, except by 11
 --   refused-lists             and no element of the lent list
-use Rattle.std.specs.Prelude.{◌≡◌, Bool, List, [], ◌∷◌, map, ℕ, ◌*◌, ◌≤◌, eqb, length}
+use Rattle.std.specs.Prelude.{◌≡◌, Bool, List, [], ◌∷◌, map, ℕ, ◌*◌, ◌≤◌, eqb, length, Option, Some, None, Result, Ok, Err}
 use Rattle.std.proofs.Math.Path.{refl, sym}
 use Rattle.std.proofs.Common.{ap, ◌∙◌, subst, ne_eqb}
 use Rattle.std.proofs.lemmas.Bool.{eqb-false}
 use Rattle.laws.specs.Choice.{cond-by}
 use Rattle.rules_refusals.specs.Table.{number_of}
 use Rattle.rules_refusals.specs.declared.Refusal.{Refusal}
-use Rattle.rules_refusals.specs.declared.Verdict.TheVariants.{Accepted, Refused}
+use Rattle.rules_refusals.specs.Verdict.{accepted}
 use Rattle.rules_pacing.specs.declared.LiveBandwidthMode.{LiveBandwidthMode}
 use Rattle.rules.specs.Settings.{capacity, store_size}
 use Rattle.rules.specs.Sender.{fresh}
@@ -24,26 +24,15 @@ use Rattle.rules.specs.Refusals.{new_verdict}
 use Rattle.rules.specs.Calls as rules
 use Rattle.buffer.specs.declared.Settings.{Settings}
 use Rattle.buffer.specs.State.{settings_of}
-use Rattle.buffer_ack.specs.declared.FullAck.{FullAck}
-use Rattle.buffer_ack.specs.declared.FullAck.TheVariants as full
 use Rattle.buffer_ack.specs.declared.AckAction.{AckAction}
-use Rattle.buffer_ack.specs.declared.AckRtt.{AckRtt}
 use Rattle.sender.specs.declared.Sender.{Sender}
-use Rattle.sender.specs.declared.Messaged as sender
-use Rattle.sender.specs.declared.Messaged.TheVariants as messaged
-use Rattle.sender.specs.declared.Acknowledged as sender-ack
-use Rattle.sender.specs.declared.Acknowledged.TheVariants as acknowledged
 use Rattle.sender.specs.Calls as Calls
 use Rattle.sender.specs.Calls.{made}
 use Rattle.sender.specs.Calls.Stands as Message
 use Rattle.sender.specs.Acks as Acks
 use Rattle.sender.specs.Acks.Stands as Ack
-use Rattle.nak.specs.declared.Reported as reports
-use Rattle.nak.specs.declared.Reported.TheVariants as reported
 use Rattle.nak.specs.Naks as Naks
 use Rattle.nak.specs.Naks.Stands as Nak
-use Rattle.run.specs.declared.Ran as sender-run
-use Rattle.run.specs.declared.Ran.TheVariants as ran
 use Rattle.run.specs.Runs as Runs
 use Rattle.run.specs.Runs.Stands as Run
 use Rattle.host_structs.specs.declared.senders.FlatSender.{FlatSender}
@@ -56,6 +45,8 @@ use Rattle.promises.specs.Promises.{World, Call, rule_of, Fits, AllFit, after, w
 use Rattle.promises.proofs.Promises.Always.{Stood, always, answers}
 use Rattle.promises.specs.Promises.Refusals.{verdict_in, refused-stays, refused-list}
 use Rattle.phelgomrit.specs.Entries.{books_of, message, ack, nak, run}
+use Rattle.sender.specs.declared.Answer.{Answer}
+use Rattle.rules_numbers.specs.declared.Rtt.{Rtt}
 
 pub record Hub : Type 0 where
   pub kept : FlatSender
@@ -87,20 +78,20 @@ enters (k ∷ ks) h = enters ks (enter k h)
 -- ## An ACK's sender
 
 module _ (f : FlatSender) where
-  acted : (s : Sender) (a : AckAction) (n : FullAck) → sender_of (answer_by s a n).sender ≡ s
-  acted s a full.None = read_back s
-  acted s a (full.Number n) = read_back s
+  acted : (s : Sender) (a : AckAction) (n : Option ℕ) → sender_of (answer_by s a n).sender ≡ s
+  acted s a None = read_back s
+  acted s a (Some n) = read_back s
 
-  ack-after : (a : sender-ack.Acknowledged) → ((s : Sender) (r : Refusal) → a ≡ acknowledged.Refused s r → (number_of r ≡ 11 → ⊥) → s ≡ sender_of f)
+  ack-after : (a : Result (Sender × AckAction) (Sender × Refusal)) → ((s : Sender) (r : Refusal) → a ≡ (Err (s, r)) → (number_of r ≡ 11 → ⊥) → s ≡ sender_of f)
       → sender_of (ack_of f a).sender ≡ Ack.sender_after a
   unfolding ack_of ack_left refused_of
-  ack-after (acknowledged.Done s a) h = acted s a a.send_ack2
-  ack-after (acknowledged.Refused s r) h =
+  ack-after (Ok (s, a)) h = acted s a a.send_ack2
+  ack-after (Err (s, r)) h =
       cond-by (λ (g : FlatSender). sender_of g ≡ s) (eqb (number_of r) 11) (flat_from s) f (λ e. read_back s) (λ e. sym (h s r refl (eqb-false _ _ e)))
 
 -- what a refused ACK leaves, from what `promises` says
-refused-sender : (w : World) (n : ℕ) (full : FullAck) (rtt : AckRtt) (s : Sender) (r : Refusal)
-    → Acks.ack w.books n full rtt ≡ acknowledged.Refused s r → (number_of r ≡ 11 → ⊥) → s ≡ w.books.sender
+refused-sender : (w : World) (n : ℕ) (full : Option ℕ) (rtt : Option Rtt) (s : Sender) (r : Refusal)
+    → Acks.ack w.books n full rtt ≡ (Err (s, r)) → (number_of r ≡ 11 → ⊥) → s ≡ w.books.sender
 unfolding verdict_in after
 refused-sender w n full rtt s r e o =
     sym (ap Ack.sender_after e) ∙ ap (λ (v : World). v.books.sender) (refused-stays (calls.ack n full rtt) w r (ap Ack.verdict_of e) o)
@@ -130,7 +121,7 @@ all-entered (k ∷ ks) h = all-entered ks (enter k h) ∙ ap (worlds ks) (entere
 
 -- ## From a new sender
 
-module _ (c : Settings) (mode : LiveBandwidthMode) (ring lost store : List ℕ) (accepted : new_verdict (settings_of c) mode ≡ Accepted) where
+module _ (c : Settings) (mode : LiveBandwidthMode) (ring lost store : List ℕ) (accepted : new_verdict (settings_of c) mode ≡ accepted) where
   abbrev pub new_hub : Hub
   new_hub = record { kept = (new_of (made c mode)).sender; ring = ring; lost = lost; store = store }
 
@@ -160,32 +151,32 @@ abbrev hub : FlatSender → World → Hub
 hub f w = record { kept = f; ring = w.books.ring; lost = w.books.lost; store = w.store }
 
 module _ (r : Refusal) (o : number_of r ≡ 11 → ⊥) (h : Hub) where
-  same : (k : Call) (f : FlatSender) → f ≡ h.kept → verdict_in k (world_of h) ≡ Refused r → hub f (after k (world_of h)) ≡ h
+  same : (k : Call) (f : FlatSender) → f ≡ h.kept → verdict_in k (world_of h) ≡ Err r → hub f (after k (world_of h)) ≡ h
   same k f e v = ap (λ (g : FlatSender). hub g (after k (world_of h))) e ∙ ap (hub h.kept) (refused-stays k (world_of h) r v o)
 
-  message-given : (a : sender.Messaged) → Message.verdict_of a ≡ Refused r → (message_of h.kept a).sender ≡ h.kept
+  message-given : (a : Result (Sender × Answer) Refusal) → Message.verdict_of a ≡ Err r → (message_of h.kept a).sender ≡ h.kept
   unfolding message_of
-  message-given (messaged.Done s a) e = cc
-  message-given (messaged.Refused q) e = refl
+  message-given (Ok (s, a)) e = cc
+  message-given (Err q) e = refl
 
-  ack-given : (a : sender-ack.Acknowledged) → Ack.verdict_of a ≡ Refused r → (ack_of h.kept a).sender ≡ h.kept
+  ack-given : (a : Result (Sender × AckAction) (Sender × Refusal)) → Ack.verdict_of a ≡ Err r → (ack_of h.kept a).sender ≡ h.kept
   unfolding ack_of ack_left refused_of
-  ack-given (acknowledged.Done s a) e = cc
-  ack-given (acknowledged.Refused s q) e =
+  ack-given (Ok (s, a)) e = cc
+  ack-given (Err (s, q)) e =
       let is : number_of q ≡ number_of r = cc in
       rw (ne_eqb (number_of q) 11 (λ p. o (sym is ∙ p)))
 
-  nak-given : (a : reports.Reported) → Nak.verdict_of a ≡ Refused r → (nak_of h.kept a).sender ≡ h.kept
+  nak-given : (a : Result (Sender × ℕ) Refusal) → Nak.verdict_of a ≡ Err r → (nak_of h.kept a).sender ≡ h.kept
   unfolding nak_of
-  nak-given (reported.Done s n) e = cc
-  nak-given (reported.Refused q) e = refl
+  nak-given (Ok (s, n)) e = cc
+  nak-given (Err q) e = refl
 
-  run-given : (a : sender-run.Ran) → Run.verdict_of a ≡ Refused r → (run_of h.kept a).sender ≡ h.kept
+  run-given : (a : Result (Sender × ℕ × ℕ) Refusal) → Run.verdict_of a ≡ Err r → (run_of h.kept a).sender ≡ h.kept
   unfolding run_of
-  run-given (ran.Done s n left) e = cc
-  run-given (ran.Refused q) e = refl
+  run-given (Ok (s, n, left)) e = cc
+  run-given (Err q) e = refl
 
-  pub refused-enters : (k : Call) → verdict_in k (world_of h) ≡ Refused r → enter k h ≡ h
+  pub refused-enters : (k : Call) → verdict_in k (world_of h) ≡ Err r → enter k h ≡ h
   unfolding enter after message ack nak run verdict_in
   refused-enters (calls.message time now bytes) e = same (calls.message time now bytes) _ (message-given _ e) e
   refused-enters (calls.ack n full rtt) e = same (calls.ack n full rtt) _ (ack-given _ e) e
@@ -195,8 +186,8 @@ module _ (r : Refusal) (o : number_of r ≡ 11 → ⊥) (h : Hub) where
 
 module _ (r : Refusal) (h : Hub) where
   pub refused-lists :
-      ((words list : List ℕ) → verdict_in (calls.nak words list) (world_of h) ≡ Refused r → (nak h.kept words h.ring h.lost list).out ≡ list)
-      × ((now p : ℕ) (draining : Bool) (list : List ℕ) → verdict_in (calls.run now p draining list) (world_of h) ≡ Refused r
+      ((words list : List ℕ) → verdict_in (calls.nak words list) (world_of h) ≡ Err r → (nak h.kept words h.ring h.lost list).out ≡ list)
+      × ((now p : ℕ) (draining : Bool) (list : List ℕ) → verdict_in (calls.run now p draining list) (world_of h) ≡ Err r
       → (run h.kept now p draining h.ring h.lost list).out ≡ list)
   unfolding nak run
   refused-lists = refused-list (world_of h) r

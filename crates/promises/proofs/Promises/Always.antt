@@ -7,12 +7,11 @@
 --   reports-told                       the reports are those of the sender of the rules
 --   books-stay                         the books keep the rules, so no call answers 3
 --   demand-three                       demand 3 as a whole, of the sender that the books represent
-use Rattle.std.specs.Prelude.{◌≡◌, true, ℕ, ◌*◌, ◌≤◌}
+use Rattle.std.specs.Prelude.{◌≡◌, true, ℕ, ◌*◌, ◌≤◌, Some, None, Ok, Err}
 use Rattle.std.proofs.Math.Path.{refl, sym, ap}
 use Rattle.std.proofs.Common.{◌∙◌, subst}
 use mathlib.Core.List.{List, [], ◌∷◌, map}
 use Rattle.std.proofs.Math.ListN.{length}
-use Rattle.rules_refusals.specs.declared.Verdict.TheVariants.{Accepted, Refused}
 use Rattle.rules_pacing.specs.declared.LiveBandwidthMode.{LiveBandwidthMode}
 use Rattle.rules.specs.Settings.{Settings, capacity, store_size}
 use Rattle.rules.specs.Sender.{Sender, fresh}
@@ -27,7 +26,6 @@ use Rattle.rules_theorems.proofs.Store.{written-length}
 use Rattle.rules_theorems.proofs.Theorems as theorems
 use Rattle.rules_theorems.proofs.Theorems.{books-kept}
 use Rattle.rules_packets.specs.Split.{count}
-use Rattle.rules_refusals.specs.declared.Verdict.{Verdict}
 use Rattle.buffer.specs.declared.Settings as code
 use Rattle.buffer.specs.State.{settings_of}
 use Rattle.sender.specs.SenderAndAreas.{books, rules_of, kept}
@@ -35,13 +33,12 @@ use Rattle.sender.specs.SenderAndAreas.Stands.{StandsFor, kept-is}
 use Rattle.sender.specs.Calls.Stands as Message
 use Rattle.sender.specs.Acks.Stands as Ack
 use Rattle.nak.specs.Naks.Stands as Nak
-use Rattle.reports.specs.declared.Told.TheVariants.{Known}
 use Rattle.payload.specs.Payload.Stands as Payload
 use Rattle.reports.specs.Reports.{reports}
 use Rattle.reports.proofs.Refines.{reports_refines}
 use Rattle.run.specs.Runs.Stands as Run
-use Rattle.buffer_ack.specs.declared.FullAck.TheVariants as full
 use Rattle.promises.specs.Promises.{World, Call, message, ack, nak, run, payload, rule_of, Fits, AllFit, after, worlds, Same, started}
+use Rattle.rules_refusals.specs.Verdict.{Verdict, accepted}
 
 pub record Stood (c : Settings) (w : World) (s : Sender) : Type 0 where
   pub settings : rules_of w.books ≡ c
@@ -51,8 +48,8 @@ pub record Stood (c : Settings) (w : World) (s : Sender) : Type 0 where
 
 given : (k : Call) → Fits k → Given (rule_of k)
 given (message time now bytes) f = tt
-given (ack n full.None rtt) f = tt
-given (ack n (full.Number m) rtt) f = f
+given (ack n None rtt) f = tt
+given (ack n (Some m) rtt) f = f
 given (nak words list) f = tt
 given (run now p draining list) f = tt
 given (payload n) f = tt
@@ -78,8 +75,8 @@ module _ (c : Settings) (s : Sender) (time now : ℕ) (bytes store : List ℕ) (
   stored-long = go (rules.verdict_of c (rules.message time now bytes) s)
     where
       go : (v : Verdict) → store_size c ≤ length (rules.store_by c v (rules.message time now bytes) s store)
-      go Accepted = rw (written-length c bytes s.pushed 0 (count c.size (length bytes)) store room) room
-      go (Refused r) = room
+      go (Ok _) = rw (written-length c bytes s.pushed 0 (count c.size (length bytes)) store room) room
+      go (Err r) = room
 
 module _ {c : Settings} {w : World} {s : Sender} (S : Stood c w s) where
   abbrev d : Settings
@@ -120,13 +117,13 @@ module _ {c : Settings} {w : World} {s : Sender} (S : Stood c w s) where
   one_world (payload n) f = stood (payload n) f refl (rw (one_answer S (payload n) f).same S.stands) S.room
 
   -- an accepted call that doesn't write to the store
-  unwritten : (k : rules.Call) → rules.store_by c Accepted k s w.store ≡ w.store → w.store ≡ rules.store_after c k s w.store
+  unwritten : (k : rules.Call) → rules.store_by c accepted k s w.store ≡ w.store → w.store ≡ rules.store_after c k s w.store
   unfolding rules.store_after rules.store_by
   unwritten k e = go (rules.verdict_of c k s)
     where
       go : (v : Verdict) → w.store ≡ rules.store_by c v k s w.store
-      go Accepted = sym e
-      go (Refused r) = refl
+      go (Ok _) = sym e
+      go (Err r) = refl
 
   -- only an accepted message writes to the store
   pub one_store : (k : Call) → Fits k → (after k w).store ≡ rules.store_after c (rule_of k) s w.store
@@ -158,7 +155,7 @@ all-given [] f = tt
 all-given (k ∷ ks) f = (given k f.0, all-given ks f.1)
 
 -- a fresh sender from `new`, in areas as long as its capacity requires
-module _ (b : code.Settings) (mode : LiveBandwidthMode) (ring lost store : List ℕ) (accepted : new_verdict (settings_of b) mode ≡ Accepted)
+module _ (b : code.Settings) (mode : LiveBandwidthMode) (ring lost store : List ℕ) (accepted : new_verdict (settings_of b) mode ≡ accepted)
     (entries : capacity (settings_of b) * 6 ≤ length ring) (losses : capacity (settings_of b) ≤ length lost) (payloads : store_size (settings_of b) ≤ length store) where
   abbrev c : Settings
   c = settings_of b
@@ -191,7 +188,7 @@ module _ (b : code.Settings) (mode : LiveBandwidthMode) (ring lost store : List 
       subst (λ (d : Settings). Same (sender_of ks) k (worlds ks start) (rules.answer d (rule_of k) (sender_of ks))) S.settings (one_answer S k g)
 
   -- and so are the reports
-  pub reports-told : (ks : List Call) → AllFit ks → reports (worlds ks start).books ≡ Known (record {
+  pub reports-told : (ks : List Call) → AllFit ks → reports (worlds ks start).books ≡ Ok (record {
     is_flushed = is_flushed (sender_of ks);
     has_packets_to_send = has_packets_to_send (sender_of ks);
     len = buffered_packets (sender_of ks);

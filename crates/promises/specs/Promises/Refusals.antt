@@ -5,14 +5,12 @@
 --                           except by 11
 --   with_rtt, stale-keeps   11 keeps the ACK's round-trip time, and changes nothing else
 --   refused-list            a refused call leaves every word of its lent list unchanged
-use Rattle.std.specs.Prelude.{◌≡◌, refl, Bool, true, false, not, cond, List, ℕ, ◌^◌, eqb, leb, length}
+use Rattle.std.specs.Prelude.{◌≡◌, refl, Bool, true, false, not, cond, List, ℕ, ◌^◌, eqb, leb, length, Option, Some, None, Result, Ok, Err}
 use Rattle.std.proofs.Common.{sym, ap, ◌∙◌, arith, ne_eqb}
 use Rattle.rules_refusals.specs.declared.Refusal.{Refusal}
 use Rattle.rules_refusals.specs.declared.Refusal.TheVariants.{BadStore, BadState, BadNumber, BadRtt}
-use Rattle.rules_refusals.specs.declared.Verdict.{Verdict}
-use Rattle.rules_refusals.specs.declared.Verdict.TheVariants.{Accepted, Refused}
 use Rattle.rules_refusals.specs.Table.{number_of}
-use Rattle.rules_refusals.specs.Verdict.{when, answer}
+use Rattle.rules_refusals.specs.Verdict.{Verdict, accepted, when, answer}
 use Rattle.rules.specs.Refusals.{bad_rtt}
 use Rattle.sender.specs.SenderAndAreas.{Books, books, state_of, rules_of, areas_short, judge}
 use Rattle.sender.specs.SenderAndAreas.{kept as keptBooks}
@@ -27,27 +25,19 @@ use Rattle.payload.specs.Payload.Stands as Payload
 use Rattle.run.specs.Runs as Runs
 use Rattle.run.specs.Runs.Stands as Run
 use Rattle.rules_pacing.specs.declared.SenderCongestionControl.{SenderCongestionControl}
-use Rattle.rules_pacing.specs.declared.Paced.TheVariants as paced
 use Rattle.rules_pacing.specs.Pacing.{due, moved, snd_period, input}
 use Rattle.rules_pacing.specs.Pacing.{after as kept}
 use Rattle.buffer.specs.declared.Settings.{Settings}
 use Rattle.buffer_push.specs.declared.Pushed.{Pushed}
-use Rattle.buffer_ack.specs.declared.FullAck.{FullAck}
-use Rattle.buffer_ack.specs.declared.AckRtt.{AckRtt}
-use Rattle.buffer_ack.specs.declared.Acked.{Acked}
-use Rattle.buffer_ack.specs.declared.Acked.TheVariants as acked
 use Rattle.buffer_ack.specs.Ack as AckOf
 use Rattle.buffer_ack.specs.Ack.Stands.{refused-keeps}
 use Rattle.buffer.specs.declared.SendBuffer.{SendBuffer}
 use Rattle.sender.specs.declared.Sender.{Sender}
-use Rattle.sender.specs.declared.Acknowledged.{Acknowledged}
-use Rattle.sender.specs.declared.Acknowledged.TheVariants as acknowledged-as
 use Rattle.buffer_nak.specs.Report as Report
 use Rattle.buffer_run.specs.Run as Run₀
-use Rattle.sender.specs.declared.Messaged.TheVariants as messaged
-use Rattle.nak.specs.declared.Reported.TheVariants as reported
-use Rattle.run.specs.declared.Ran.TheVariants as ran
 use Rattle.promises.specs.Promises.{World, Call, message, ack, nak, run, payload, after}
+use Rattle.rules_numbers.specs.declared.Rtt.{Rtt}
+use Rattle.buffer_ack.specs.declared.AckAction.{AckAction}
 
 unfoldable pub verdict_in : Call → World → Verdict
 verdict_in (message time now bytes) w = Message.verdict_of (Messages.message w.books time now bytes w.store).answer
@@ -57,11 +47,11 @@ verdict_in (run now p draining list) w = Run.verdict_of (Runs.run w.books now p 
 verdict_in (payload n) w = Payload.verdict_of (Payloads.payload w.books n w.store)
 
 -- pacing refuses no message that the tests accept
-finished_accepts : (c : Settings) (p : Pushed) (k : SenderCongestionControl) (now m n : ℕ) → Message.verdict_of (Messages.finished c p (input k now m n)) ≡ Accepted
+finished_accepts : (c : Settings) (p : Pushed) (k : SenderCongestionControl) (now m n : ℕ) → Message.verdict_of (Messages.finished c p (input k now m n)) ≡ accepted
 unfolding input
 finished_accepts c p k now m n = go (due k.next now)
   where
-    go : (t : Bool) → Message.verdict_of (Messages.finished c p (cond t (paced.Period (snd_period (moved k now)) (kept k now m n)) (paced.Silent (kept k now m n)))) ≡ Accepted
+    go : (t : Bool) → Message.verdict_of (Messages.finished c p (cond t (Ok (Some (snd_period (moved k now)), kept k now m n)) (Ok (None, kept k now m n)))) ≡ accepted
     go true = refl
     go false = refl
 
@@ -69,29 +59,29 @@ module _ (w : World) (r : Refusal) where
   abbrev g : Books
   g = w.books
 
-  message-stays : (time now : ℕ) (bytes : List ℕ) → verdict_in (message time now bytes) w ≡ Refused r → after (message time now bytes) w ≡ w
+  message-stays : (time now : ℕ) (bytes : List ℕ) → verdict_in (message time now bytes) w ≡ Err r → after (message time now bytes) w ≡ w
   unfolding verdict_in after Messages.message Messages.done
   message-stays time now bytes = go (Messages.message_verdict g time now (length bytes) (length w.store))
     where
       left : Verdict → Messages.Messages
-      left v = answer (λ q. Messages.area (messaged.Refused q) g.ring g.lost w.store) v (Messages.done g time now bytes w.store)
+      left v = answer (λ q. Messages.area (Err q) g.ring g.lost w.store) v (Messages.done g time now bytes w.store)
 
-      go : (v : Verdict) → Message.verdict_of (left v).answer ≡ Refused r
+      go : (v : Verdict) → Message.verdict_of (left v).answer ≡ Err r
           → record { books = books (Message.sender_after g.sender (left v).answer) (left v).ring (left v).lost; store = (left v).store } ≡ w
-      go Accepted e = let z : Accepted ≡ Refused r = sym (finished_accepts _ _ _ _ _ _) ∙ e in cc
-      go (Refused q) e = refl
+      go (Ok _) e = let z : accepted ≡ Err r = sym (finished_accepts _ _ _ _ _ _) ∙ e in cc
+      go (Err q) e = refl
 
-  nak-stays : (words list : List ℕ) → verdict_in (nak words list) w ≡ Refused r → after (nak words list) w ≡ w
+  nak-stays : (words list : List ℕ) → verdict_in (nak words list) w ≡ Err r → after (nak words list) w ≡ w
   unfolding verdict_in after Naks.nak
   nak-stays words list = go (Naks.nak_verdict g words (length list))
     where
       left : Verdict → Naks.Naks
-      left v = answer (λ q. Naks.naks (reported.Refused q) g.lost list) v (Naks.nak_by g.sender (Report.add g.sender.buffer words g.lost list))
+      left v = answer (λ q. Naks.naks (Err q) g.lost list) v (Naks.nak_by g.sender (Report.add g.sender.buffer words g.lost list))
 
-      go : (v : Verdict) → Nak.verdict_of (left v).answer ≡ Refused r
+      go : (v : Verdict) → Nak.verdict_of (left v).answer ≡ Err r
           → record { books = books (Nak.sender_after g.sender (left v).answer) g.ring (left v).lost; store = w.store } ≡ w
-      go Accepted e = cc
-      go (Refused q) e = refl
+      go (Ok _) e = cc
+      go (Err q) e = refl
 
 -- ## An ACK
 
@@ -102,18 +92,18 @@ with_buffer b w =
     record { books = books (Messages.sender_of g.sender.settings b g.sender.pacing) g.ring g.lost; store = w.store }
 
 -- the same world with the round-trip time of an ACK
-abbrev pub with_rtt : AckRtt → World → World
+abbrev pub with_rtt : Option Rtt → World → World
 with_rtt rtt w = with_buffer (AckOf.take_rtt rtt (state_of w.books)).books w
 
 -- an answer of buffer_ack, within the sender
-shown : (s : Sender) (a : Acked) → (Ack.verdict_of (Acks.acknowledged s a) ≡ AckOf.verdict_of a)
+shown : (s : Sender) (a : Result (SendBuffer × AckAction) (SendBuffer × Refusal)) → (Ack.verdict_of (Acks.acknowledged s a) ≡ AckOf.verdict_of a)
     × (Ack.sender_after (Acks.acknowledged s a) ≡ Messages.sender_of s.settings (AckOf.books_of a) s.pacing)
-shown s (acked.Done b a) = (refl, refl)
-shown s (acked.Refused b q) = (refl, refl)
+shown s (Ok (b, a)) = (refl, refl)
+shown s (Err (b, q)) = (refl, refl)
 
 -- the tests before an ACK reaches the buffer never give 11
 early-not_11 : (a b d f : Bool) (q : Refusal)
-    → Messages.then (when a BadStore (when b BadState Accepted)) (when d BadNumber (when f BadRtt Accepted)) ≡ Refused q
+    → Messages.then (when a BadStore (when b BadState accepted)) (when d BadNumber (when f BadRtt accepted)) ≡ Err q
     → number_of q ≡ 11
     → ⊥
 early-not_11 true b d f q e n = let z : number_of q ≡ 2 = cc in omega (arith, z, n)
@@ -123,7 +113,7 @@ early-not_11 false false false true q e n = let z : number_of q ≡ 8 = cc in om
 early-not_11 false false false false q e n = let z : ◌≡◌ {A = ℕ} 0 1 = cc in omega arith
 
 -- a refused ACK leaves the buffer's books unchanged, except by 11
-ack_leaves : (w : World) (r : Refusal) (n : ℕ) (full : FullAck) (rtt : AckRtt) → verdict_in (ack n full rtt) w ≡ Refused r
+ack_leaves : (w : World) (r : Refusal) (n : ℕ) (full : Option ℕ) (rtt : Option Rtt) → verdict_in (ack n full rtt) w ≡ Err r
     → after (ack n full rtt) w ≡ with_buffer (cond (eqb (number_of r) 11) (AckOf.take_rtt rtt (state_of w.books)).books w.books.sender.buffer) w
 unfolding verdict_in after Acks.ack Acks.ack_verdict judge
 ack_leaves w r n full rtt = go (Acks.ack_verdict g n rtt) refl
@@ -131,37 +121,37 @@ ack_leaves w r n full rtt = go (Acks.ack_verdict g n rtt) refl
     g : Books
     g = w.books
 
-    said : Acked
+    said : Result (SendBuffer × AckAction) (SendBuffer × Refusal)
     said = AckOf.update (rules_of g) (record { 0 = n }) full rtt (state_of g)
 
-    left : Verdict → Acknowledged
-    left v = answer (acknowledged-as.Refused g.sender) v (Acks.acknowledged g.sender said)
+    left : Verdict → Result (Sender × AckAction) (Sender × Refusal)
+    left v = answer (λ r. Err (g.sender, r)) v (Acks.acknowledged g.sender said)
 
-    go : (v : Verdict) → Acks.ack_verdict g n rtt ≡ v → Ack.verdict_of (left v) ≡ Refused r
+    go : (v : Verdict) → Acks.ack_verdict g n rtt ≡ v → Ack.verdict_of (left v) ≡ Err r
         → record { books = books (Ack.sender_after (left v)) g.ring g.lost; store = w.store }
         ≡ with_buffer (cond (eqb (number_of r) 11) (AckOf.take_rtt rtt (state_of g)).books g.sender.buffer) w
-    go Accepted d e =
+    go (Ok _) d e =
         let x = shown g.sender said in
         ap (λ (s : Sender). record { books = books s g.ring g.lost; store = w.store }) x.1
         ∙ ap (λ (b : SendBuffer). with_buffer b w) (refused-keeps (rules_of g) (record { 0 = n }) full rtt (state_of g) r (sym x.0 ∙ e))
-    go (Refused q) d e =
+    go (Err q) d e =
         let same : number_of r ≡ number_of q = cc in
         let short = areas_short (rules_of g) (length g.ring) (length g.lost) in
-        let early = early-not_11 short (not (keptBooks g)) (leb (2 ^ 31) n) (bad_rtt (AckOf.rtt_of rtt)) q d in
+        let early = early-not_11 short (not (keptBooks g)) (leb (2 ^ 31) n) (bad_rtt rtt) q d in
         rw (ne_eqb (number_of r) 11 (λ is. early (sym same ∙ is)))
 
-ack-stays : (w : World) (r : Refusal) (n : ℕ) (full : FullAck) (rtt : AckRtt) → verdict_in (ack n full rtt) w ≡ Refused r → (number_of r ≡ 11 → ⊥)
+ack-stays : (w : World) (r : Refusal) (n : ℕ) (full : Option ℕ) (rtt : Option Rtt) → verdict_in (ack n full rtt) w ≡ Err r → (number_of r ≡ 11 → ⊥)
     → after (ack n full rtt) w ≡ w
 ack-stays w r n full rtt e other = ack_leaves w r n full rtt e ∙ rw (ne_eqb (number_of r) 11 other)
 
 -- 11 keeps the ACK's round-trip time, and changes nothing else
-pub stale-keeps : (w : World) (r : Refusal) (n : ℕ) (full : FullAck) (rtt : AckRtt) → verdict_in (ack n full rtt) w ≡ Refused r → number_of r ≡ 11
+pub stale-keeps : (w : World) (r : Refusal) (n : ℕ) (full : Option ℕ) (rtt : Option Rtt) → verdict_in (ack n full rtt) w ≡ Err r → number_of r ≡ 11
     → after (ack n full rtt) w ≡ with_rtt rtt w
 stale-keeps w r n full rtt e is = ack_leaves w r n full rtt e ∙ rw is
 
 -- ## Any call
 
-pub refused-stays : (k : Call) (w : World) (r : Refusal) → verdict_in k w ≡ Refused r → (number_of r ≡ 11 → ⊥) → after k w ≡ w
+pub refused-stays : (k : Call) (w : World) (r : Refusal) → verdict_in k w ≡ Err r → (number_of r ≡ 11 → ⊥) → after k w ≡ w
 unfolding verdict_in after Runs.run
 refused-stays (message time now bytes) w r e n = message-stays w r time now bytes e
 refused-stays (ack m full rtt) w r e n = ack-stays w r m full rtt e n
@@ -173,18 +163,18 @@ refused-stays (run now p draining list) w r e n = go (Runs.run_verdict g now p (
 
     left : Verdict → Runs.Runs
     left v =
-        answer (λ q. Runs.runs (ran.Refused q) g.ring g.lost list) v (Runs.ran_by g.sender (Run₀.run (rules_of g) now draining p (state_of g) list))
+        answer (λ q. Runs.runs (Err q) g.ring g.lost list) v (Runs.ran_by g.sender (Run₀.run (rules_of g) now draining p (state_of g) list))
 
-    go : (v : Verdict) → Run.verdict_of (left v).answer ≡ Refused r
+    go : (v : Verdict) → Run.verdict_of (left v).answer ≡ Err r
         → record { books = books (Run.sender_after g.sender (left v).answer) (left v).ring (left v).lost; store = w.store } ≡ w
-    go Accepted e = cc
-    go (Refused q) e = refl
+    go (Ok _) e = cc
+    go (Err q) e = refl
 refused-stays (payload m) w r e n = refl
 
 -- the lent list of a refused call is unchanged too
 pub refused-list : (w : World) (r : Refusal)
-    → ((words list : List ℕ) → verdict_in (nak words list) w ≡ Refused r → (Naks.nak w.books words list).out ≡ list)
-    × ((now p : ℕ) (draining : Bool) (list : List ℕ) → verdict_in (run now p draining list) w ≡ Refused r → (Runs.run w.books now p draining list).out ≡ list)
+    → ((words list : List ℕ) → verdict_in (nak words list) w ≡ Err r → (Naks.nak w.books words list).out ≡ list)
+    × ((now p : ℕ) (draining : Bool) (list : List ℕ) → verdict_in (run now p draining list) w ≡ Err r → (Runs.run w.books now p draining list).out ≡ list)
 unfolding verdict_in Naks.nak Runs.run
 refused-list w r = (
   λ words list. go (Report.add w.books.sender.buffer words w.books.lost list) list (Naks.nak_verdict w.books words (length list)),
@@ -192,13 +182,13 @@ refused-list w r = (
 )
   where
     go : (a : Report.Left) (list : List ℕ) (v : Verdict)
-        → Nak.verdict_of (answer (λ q. Naks.naks (reported.Refused q) w.books.lost list) v (Naks.nak_by w.books.sender a)).answer ≡ Refused r
-        → (answer (λ q. Naks.naks (reported.Refused q) w.books.lost list) v (Naks.nak_by w.books.sender a)).out ≡ list
-    go a list Accepted e = cc
-    go a list (Refused q) e = refl
+        → Nak.verdict_of (answer (λ q. Naks.naks (Err q) w.books.lost list) v (Naks.nak_by w.books.sender a)).answer ≡ Err r
+        → (answer (λ q. Naks.naks (Err q) w.books.lost list) v (Naks.nak_by w.books.sender a)).out ≡ list
+    go a list (Ok _) e = cc
+    go a list (Err q) e = refl
 
     on : (a : Run₀.Walk) (list : List ℕ) (v : Verdict)
-        → Run.verdict_of (answer (λ q. Runs.runs (ran.Refused q) w.books.ring w.books.lost list) v (Runs.ran_by w.books.sender a)).answer ≡ Refused r
-        → (answer (λ q. Runs.runs (ran.Refused q) w.books.ring w.books.lost list) v (Runs.ran_by w.books.sender a)).out ≡ list
-    on a list Accepted e = cc
-    on a list (Refused q) e = refl
+        → Run.verdict_of (answer (λ q. Runs.runs (Err q) w.books.ring w.books.lost list) v (Runs.ran_by w.books.sender a)).answer ≡ Err r
+        → (answer (λ q. Runs.runs (Err q) w.books.ring w.books.lost list) v (Runs.ran_by w.books.sender a)).out ≡ list
+    on a list (Ok _) e = cc
+    on a list (Err q) e = refl

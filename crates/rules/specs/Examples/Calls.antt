@@ -7,10 +7,9 @@
 --   whole, entered             the loss list ascends, each number once; all Added numbers enter it, and no others
 --   units-given                the budgets of accepted runs
 --   messages, reports          refusals 4 and 13 at their ends; the five reports
-use Rattle.std.specs.Prelude.{◌≡◌, refl, false, true, [], ◌∷◌, ◌+◌, ◌-◌, ◌^◌, ℕ, length, replicate}
-use Rattle.std.proofs.Math.Option.{none, some}
+use Rattle.std.specs.Prelude.{◌≡◌, refl, false, true, [], ◌∷◌, ◌+◌, ◌-◌, ◌^◌, ℕ, length, replicate, Some, None, Err}
 use Rattle.rules_refusals.specs.declared.Refusal.TheVariants.{BadNak, BadNumber, BadRtt, BadTime, Empty, InvalidAck, NoRoom, StaleFullAck}
-use Rattle.rules_refusals.specs.declared.Verdict.TheVariants.{Accepted, Refused}
+use Rattle.rules_refusals.specs.Verdict.{accepted}
 use Rattle.rules.specs.Calls.{Acked, Found, Nothing, Pushed, Ran, Reported, ack, all_records, all_units, answer, calls, message, nak, payload, runs, stores}
 use Rattle.rules.specs.Computing.{computes}
 use Rattle.rules.specs.Losses.{Added, Dropped, Ignored, LossKind, LossRun, bad, items, items_of, joined, runs_of, words_of}
@@ -22,19 +21,19 @@ use Rattle.rules.specs.Examples.{small, said, verdicts, sent, begun, bytes, pack
 -- two packets are sent and on the list, one is acknowledged; then the RTT of a stale full ACK is kept, that of an ACK
 -- past next unsent is not
 pub stale :
-    (said (small 9 4 9) (message 0 0 (bytes 8) ∷ runs 0 2 false 9 ∷ nak (9 ∷ 10 ∷ []) 6 ∷ ack 10 (some 3) none ∷ ack 11 (some 3)
-    (some (record { mean = 1; variance = 2 })) ∷ [])
-    ≡ Pushed 2 0 0 none
+    (said (small 9 4 9) (message 0 0 (bytes 8) ∷ runs 0 2 false 9 ∷ nak (9 ∷ 10 ∷ []) 6 ∷ ack 10 (Some 3) None ∷ ack 11 (Some 3)
+    (Some (record { mean = 1; variance = 2 })) ∷ [])
+    ≡ Pushed 2 0 0 None
     ∷ Ran (all_records (small 9 4 9) (message 0 0 (bytes 8) ∷ runs 0 2 false 9 ∷ []) (begun (small 9 4 9))) 0
     ∷ Reported (record { kind = Added; first = 9; count = 2 } ∷ [])
-    ∷ Acked 1 1 (some 3)
+    ∷ Acked 1 1 (Some 3)
     ∷ Nothing
     ∷ [])
     × (base (calls (small 9 4 9)
-    (message 0 0 (bytes 8) ∷ runs 0 2 false 9 ∷ ack 9 (some 0) (some (record { mean = 1; variance = 2 })) ∷ []) (begun (small 9 4 9)))
+    (message 0 0 (bytes 8) ∷ runs 0 2 false 9 ∷ ack 9 (Some 0) (Some (record { mean = 1; variance = 2 })) ∷ []) (begun (small 9 4 9)))
     ≡ 20_009)
     × (base (calls (small 9 4 9)
-    (message 0 0 (bytes 8) ∷ runs 0 2 false 9 ∷ ack 12 (some 0) (some (record { mean = 1; variance = 2 })) ∷ [])
+    (message 0 0 (bytes 8) ∷ runs 0 2 false 9 ∷ ack 12 (Some 0) (Some (record { mean = 1; variance = 2 })) ∷ [])
     (begun (small 9 4 9))) ≡ 320_000)
 unfolding computes
 stale = (refl, refl, refl)
@@ -42,30 +41,30 @@ stale = (refl, refl, refl)
 -- 2^31 − 1 and 0 are sent and an ACK of 1 takes both; an ACK of a number on the list leaves that number there, and its
 -- 4 + 28 bytes in the count; the first full number expected is 1
 pub acked :
-    ((answer (small (2 ^ 31 - 1) 4 9) (ack 1 none none)
+    ((answer (small (2 ^ 31 - 1) 4 9) (ack 1 None None)
     (calls (small (2 ^ 31 - 1) 4 9) (message 0 0 (bytes 8) ∷ runs 0 2 false 9 ∷ []) (begun (small (2 ^ 31 - 1) 4 9)))).said
-    ≡ Acked 2 0 none)
-    × ((calls (small 9 4 9) (message 0 0 (bytes 8) ∷ runs 0 2 false 9 ∷ nak (9 ∷ 10 ∷ []) 6 ∷ ack 10 none none ∷ []) (begun (small 9 4 9))).lost
+    ≡ Acked 2 0 None)
+    × ((calls (small 9 4 9) (message 0 0 (bytes 8) ∷ runs 0 2 false 9 ∷ nak (9 ∷ 10 ∷ []) 6 ∷ ack 10 None None ∷ []) (begun (small 9 4 9))).lost
     ≡ 10 ∷ [])
-    × ((calls (small 9 4 9) (message 0 0 (bytes 8) ∷ runs 0 2 false 9 ∷ ack 10 none none ∷ []) (begun (small 9 4 9))).bytes ≡ 32)
-    × (verdicts (small 9 4 9) (message 0 0 [] ∷ ack 9 (some 1) none ∷ ack 9 (some 2) none ∷ ack 9 (some 2) none ∷ [])
-    ≡ Accepted ∷ Accepted ∷ Accepted ∷ Refused (StaleFullAck 2 3) ∷ [])
+    × ((calls (small 9 4 9) (message 0 0 (bytes 8) ∷ runs 0 2 false 9 ∷ ack 10 None None ∷ []) (begun (small 9 4 9))).bytes ≡ 32)
+    × (verdicts (small 9 4 9) (message 0 0 [] ∷ ack 9 (Some 1) None ∷ ack 9 (Some 2) None ∷ ack 9 (Some 2) None ∷ [])
+    ≡ accepted ∷ accepted ∷ accepted ∷ Err (StaleFullAck 2 3) ∷ [])
 unfolding computes
 acked = (refl, refl, refl, refl)
 
 -- 7 before 8 before 9 before 10 before 11
 pub tests :
     (verdicts (small 9 4 9)
-    (ack (2 ^ 31) none (some (record { mean = 100_000_001; variance = 0 })) ∷ ack 9 none
-    (some (record { mean = 0; variance = 100_000_001 })) ∷ ack 9 none none ∷ [])
-    ≡ Refused BadNumber ∷ Refused BadRtt ∷ Refused Empty ∷ [])
+    (ack (2 ^ 31) None (Some (record { mean = 100_000_001; variance = 0 })) ∷ ack 9 None
+    (Some (record { mean = 0; variance = 100_000_001 })) ∷ ack 9 None None ∷ [])
+    ≡ Err BadNumber ∷ Err BadRtt ∷ Err Empty ∷ [])
     × (verdicts (small 9 4 9)
-    (message 0 0 [] ∷ ack 10 (some 0) none ∷ ack 9 (some 0) none ∷ ack 9 (some (2 ^ 32 - 1)) none ∷ ack 9 (some (2 ^ 32 - 1)) none ∷ [])
-    ≡ Accepted
-    ∷ Refused (InvalidAck (record { 0 = 10 }) (record { 0 = 9 }) (record { 0 = 9 }))
-    ∷ Refused (StaleFullAck 0 1)
-    ∷ Accepted
-    ∷ Refused (StaleFullAck (2 ^ 32 - 1) (2 ^ 32))
+    (message 0 0 [] ∷ ack 10 (Some 0) None ∷ ack 9 (Some 0) None ∷ ack 9 (Some (2 ^ 32 - 1)) None ∷ ack 9 (Some (2 ^ 32 - 1)) None ∷ [])
+    ≡ accepted
+    ∷ Err (InvalidAck (record { 0 = 10 }) (record { 0 = 9 }) (record { 0 = 9 }))
+    ∷ Err (StaleFullAck 0 1)
+    ∷ accepted
+    ∷ Err (StaleFullAck (2 ^ 32 - 1) (2 ^ 32))
     ∷ [])
 unfolding computes
 tests = (refl, refl)
@@ -75,7 +74,7 @@ tests = (refl, refl)
 pub full-buffer :
     (said (small (2 ^ 31 - 1) 2 9)
     (message 0 0 (bytes 9) ∷ message 0 100_000 (bytes 8) ∷ payload 2 ∷ payload (2 ^ 31 - 1) ∷ [])
-    ≡ Pushed 3 1 32 none ∷ Pushed 2 2 61 (some 1) ∷ Found (some (record { place = 4; len = 4 })) ∷ Nothing ∷ [])
+    ≡ Pushed 3 1 32 None ∷ Pushed 2 2 61 (Some 1) ∷ Found (Some (record { place = 4; len = 4 })) ∷ Nothing ∷ [])
     × ((calls (small 0 2 9) (message 0 0 (bytes 1) ∷ message 0 0 (bytes 4) ∷ message 0 0 (bytes 3) ∷ []) (begun (small 0 2 9))).bytes ≡ 63)
 unfolding computes
 full-buffer = (refl, refl)
@@ -118,7 +117,7 @@ pub three-runs :
     (said (small 100 9 9)
     (message 0 0 (bytes 12) ∷ runs 0 2 false 9 ∷ nak ((2 ^ 31 + (102 + 2 ^ 30 - 1)) ∷ 100 ∷ []) 3 ∷ nak
     ((2 ^ 31 + (102 + 2 ^ 30)) ∷ 101 ∷ []) 2 ∷ [])
-    ≡ Pushed 3 0 0 none
+    ≡ Pushed 3 0 0 None
     ∷ Ran (all_records (small 100 9 9) (message 0 0 (bytes 12) ∷ runs 0 2 false 9 ∷ []) (begun (small 100 9 9))) 0
     ∷ Reported (run Ignored (101 + 2 ^ 30) 1 ∷ run Dropped (102 + 2 ^ 30) (2 ^ 30 - 2) ∷ run Added 100 1 ∷ [])
     ∷ Nothing
@@ -140,7 +139,7 @@ whole = refl
 pub entered :
     ((calls (small 100 9 9) (message 0 0 (bytes 12) ∷ runs 0 2 false 9 ∷ nak ((2 ^ 31 + 100) ∷ 101 ∷ 102 ∷ 99 ∷ []) 9 ∷ []) (begun (small 100 9 9))
     ).lost ≡ 100 ∷ 101 ∷ [])
-    × (verdicts (small 100 9 9) (nak (7 ∷ (2 ^ 31) ∷ []) 9 ∷ []) ≡ Refused (BadNak 1) ∷ [])
+    × (verdicts (small 100 9 9) (nak (7 ∷ (2 ^ 31) ∷ []) 9 ∷ []) ≡ Err (BadNak 1) ∷ [])
     -- an entry counts on past the wrap
     × ((calls (small (2 ^ 31 - 1) 9 9) (message 0 0 (bytes 8) ∷ runs 0 2 false 9 ∷ nak (0 ∷ []) 3 ∷ []) (begun (small (2 ^ 31 - 1) 9 9))).lost
     ≡ (2 ^ 31) ∷ [])
@@ -155,7 +154,7 @@ units-given = refl
 pub messages : verdicts (small 0 2 9)
     (message (2 ^ 48) 0 [] ∷ message 0 (2 ^ 48) [] ∷ message (2 ^ 48 - 1) (2 ^ 48 - 1) [] ∷ runs
     (2 ^ 48) 0 false 3 ∷ runs 0 0 false 2 ∷ runs 0 0 false 3 ∷ runs 0 9 false 3 ∷ runs 0 9 false 4 ∷ [])
-    ≡ Refused BadTime ∷ Refused BadTime ∷ Accepted ∷ Refused BadTime ∷ Refused NoRoom ∷ Accepted ∷ Refused NoRoom ∷ Accepted ∷ []
+    ≡ Err BadTime ∷ Err BadTime ∷ accepted ∷ Err BadTime ∷ Err NoRoom ∷ accepted ∷ Err NoRoom ∷ accepted ∷ []
 unfolding computes
 messages = refl
 

@@ -5,10 +5,9 @@
 --   across         runs are joined across the wrap, from items or in a range; their exclusive ends wrap
 --   same_kind      "maximal runs of one kind": of two adjacent runs those of one kind are joined, others not
 --   consecutive    ".. and consecutive numbers": not over a gap, not backwards, not with a repeat
-use Rattle.std.specs.Prelude.{◌≡◌, refl, false, List, [], ◌∷◌, map, ◌+◌, ◌-◌, ◌^◌, ℕ}
-use Rattle.std.proofs.Math.Option.{none, some}
+use Rattle.std.specs.Prelude.{◌≡◌, refl, false, List, [], ◌∷◌, map, ◌+◌, ◌-◌, ◌^◌, ℕ, Some, None, Err}
 use Rattle.rules_refusals.specs.declared.Refusal.TheVariants.{StaleFullAck}
-use Rattle.rules_refusals.specs.declared.Verdict.TheVariants.{Accepted, Refused}
+use Rattle.rules_refusals.specs.Verdict.{accepted}
 use Rattle.rules.specs.Calls.{Acked, Reported, ack, answer, calls, message, nak, runs}
 use Rattle.rules.specs.Computing.{computes}
 use Rattle.rules.specs.Losses.{Added, Dropped, Ignored, LossKind, LossRun, end_of, joined}
@@ -23,19 +22,19 @@ both first = calls (small first 9 9) (message 0 0 (bytes 8) ∷ runs 0 2 false 9
 
 -- C = mean + 4 × variance + 20,000: 1 + 8 + 20,000, the most there is, and 320,000 as at the start without an RTT
 pub taken :
-    (base (calls (small 9 9 9) (ack 10 none (some (record { mean = 1; variance = 2 })) ∷ []) (both 9)) ≡ 20_009)
-    × (base (calls (small 9 9 9) (ack 10 (some 1) (some (record { mean = 100_000_000; variance = 100_000_000 })) ∷ []) (both 9)) ≡ 500_020_000)
-    × (base (calls (small 9 9 9) (ack 10 (some 1) none ∷ []) (both 9)) ≡ 320_000)
+    (base (calls (small 9 9 9) (ack 10 None (Some (record { mean = 1; variance = 2 })) ∷ []) (both 9)) ≡ 20_009)
+    × (base (calls (small 9 9 9) (ack 10 (Some 1) (Some (record { mean = 100_000_000; variance = 100_000_000 })) ∷ []) (both 9)) ≡ 500_020_000)
+    × (base (calls (small 9 9 9) (ack 10 (Some 1) None ∷ []) (both 9)) ≡ 320_000)
 unfolding computes
 taken = (refl, refl, refl)
 
 -- "expected starts at 1; after n it is n + 1": after 3 it is 4, and an ACK without a full number leaves it so
 pub light :
-    ((calls (small 9 9 9) (ack 10 none none ∷ []) (both 9)).expected ≡ 1)
-    × ((calls (small 9 9 9) (ack 9 (some 3) none ∷ ack 10 none none ∷ []) (both 9)).expected ≡ 4)
-    × ((answer (small 9 9 9) (ack 10 none none) (both 9)).said ≡ Acked 1 0 none)
-    × (verdicts (small 9 9 9) (message 0 0 [] ∷ ack 9 (some 3) none ∷ ack 9 none none ∷ ack 9 (some 3) none ∷ ack 9 (some 4) none ∷ [])
-    ≡ Accepted ∷ Accepted ∷ Accepted ∷ Refused (StaleFullAck 3 4) ∷ Accepted ∷ [])
+    ((calls (small 9 9 9) (ack 10 None None ∷ []) (both 9)).expected ≡ 1)
+    × ((calls (small 9 9 9) (ack 9 (Some 3) None ∷ ack 10 None None ∷ []) (both 9)).expected ≡ 4)
+    × ((answer (small 9 9 9) (ack 10 None None) (both 9)).said ≡ Acked 1 0 None)
+    × (verdicts (small 9 9 9) (message 0 0 [] ∷ ack 9 (Some 3) None ∷ ack 9 None None ∷ ack 9 (Some 3) None ∷ ack 9 (Some 4) None ∷ [])
+    ≡ accepted ∷ accepted ∷ accepted ∷ Err (StaleFullAck 3 4) ∷ accepted ∷ [])
 unfolding computes
 light = (refl, refl, refl, refl)
 

@@ -3,8 +3,7 @@
 --   flushed      "A flushed payload is held until the next accepted message": its slot and its length
 --   by_number    a flushed payload is asked for by its 31-bit number
 --   new-period   "any new period": the estimate is from the packets and bytes before this message
-use Rattle.std.specs.Prelude.{◌≡◌, refl, false, true, List, [], ◌∷◌, map, ◌-◌, ◌^◌, ℕ}
-use Rattle.std.proofs.Math.Option.{Option, none, some}
+use Rattle.std.specs.Prelude.{◌≡◌, refl, false, true, List, [], ◌∷◌, map, ◌-◌, ◌^◌, ℕ, Option, Some, None}
 use Rattle.rules_pacing.specs.declared.LiveBandwidthMode.TheVariants.{Estimated}
 use Rattle.rules.specs.Calls.{Answer, Call, Found, Pushed, Said, ack, answer, answers, calls, message, payload, runs}
 use Rattle.rules.specs.Computing.{computes}
@@ -14,7 +13,7 @@ use Rattle.rules.specs.Settings.{Settings}
 use Rattle.rules.specs.Examples.{small, begun, bytes}
 
 abbrev found : ℕ → ℕ → Option Lies
-found place len = some (record { place = place; len = len })
+found place len = Some (record { place = place; len = len })
 
 -- Capacity 3, size 4, first number 2^31 − 2: five bytes are packets of 4 and 1, seven bytes of 4 and 3, with indices 0
 -- to 3. The fourth removes the first; it is number 1 and lies in slot 0.
@@ -26,11 +25,11 @@ four = calls three (message 0 0 (bytes 5) ∷ message 0 0 (bytes 7) ∷ []) (beg
 
 -- 2^31 − 1 and 0 acknowledged
 abbrev one : Sender
-one = calls three (runs 0 3 false 9 ∷ ack 1 none none ∷ []) four
+one = calls three (runs 0 3 false 9 ∷ ack 1 None None ∷ []) four
 
 pub lies :
-    (map (payload_of three four) ((2 ^ 31 - 2) ∷ (2 ^ 31 - 1) ∷ 0 ∷ 1 ∷ 2 ∷ []) ≡ none ∷ found 4 1 ∷ found 8 4 ∷ found 0 3 ∷ none ∷ [])
-    × (map (payload_of three one) ((2 ^ 31 - 1) ∷ 0 ∷ 1 ∷ 2 ∷ []) ≡ none ∷ none ∷ found 0 3 ∷ none ∷ [])
+    (map (payload_of three four) ((2 ^ 31 - 2) ∷ (2 ^ 31 - 1) ∷ 0 ∷ 1 ∷ 2 ∷ []) ≡ None ∷ found 4 1 ∷ found 8 4 ∷ found 0 3 ∷ None ∷ [])
+    × (map (payload_of three one) ((2 ^ 31 - 1) ∷ 0 ∷ 1 ∷ 2 ∷ []) ≡ None ∷ None ∷ found 0 3 ∷ None ∷ [])
 unfolding computes
 lies = (refl, refl)
 
@@ -38,12 +37,12 @@ lies = (refl, refl)
 -- packet 10, the one with index 5, so slot 2 of three, at 2 × 4. It is sent and flushed.
 abbrev last : Sender
 last = calls (small 5 3 9)
-    (message 0 0 (bytes 20) ∷ runs 0 3 false 9 ∷ ack 10 none none ∷ message 0 0 (bytes 3) ∷ runs 0 2 true 9 ∷ []) (begun (small 5 3 9))
+    (message 0 0 (bytes 20) ∷ runs 0 3 false 9 ∷ ack 10 None None ∷ message 0 0 (bytes 3) ∷ runs 0 2 true 9 ∷ []) (begun (small 5 3 9))
 
 pub flushed :
-    (last.held ≡ some (record { number = 10; slot = 2; len = 3 }))
+    (last.held ≡ Some (record { number = 10; slot = 2; len = 3 }))
     × ((answer (small 5 3 9) (payload 10) last).said ≡ Found (found 8 3))
-    × (map (payload_of (small 5 3 9) last) (2 ∷ 9 ∷ 11 ∷ []) ≡ none ∷ none ∷ none ∷ [])
+    × (map (payload_of (small 5 3 9) last) (2 ∷ 9 ∷ 11 ∷ []) ≡ None ∷ None ∷ None ∷ [])
 unfolding computes
 flushed = (refl, refl, refl)
 
@@ -51,10 +50,10 @@ flushed = (refl, refl, refl)
 -- second flushed.
 abbrev zeroth : Sender
 zeroth = calls (small (2 ^ 31 - 1) 3 9)
-    (message 0 0 (bytes 4) ∷ message 0 0 (bytes 3) ∷ runs 0 2 false 9 ∷ ack 0 none none ∷ runs 0 1 true 9 ∷ [])
+    (message 0 0 (bytes 4) ∷ message 0 0 (bytes 3) ∷ runs 0 2 false 9 ∷ ack 0 None None ∷ runs 0 1 true 9 ∷ [])
     (begun (small (2 ^ 31 - 1) 3 9))
 
-pub by_number : map (payload_of (small (2 ^ 31 - 1) 3 9) zeroth) ((2 ^ 31 - 1) ∷ 0 ∷ 1 ∷ []) ≡ none ∷ found 4 3 ∷ none ∷ []
+pub by_number : map (payload_of (small (2 ^ 31 - 1) 3 9) zeroth) ((2 ^ 31 - 1) ∷ 0 ∷ 1 ∷ []) ≡ None ∷ found 4 3 ∷ None ∷ []
 unfolding computes
 by_number = refl
 
@@ -79,12 +78,12 @@ pub new-period : answered
     ∷ message 400_000 399_999 []
     ∷ message 7 400_000 (bytes 1)
     ∷ [])
-    ≡ Pushed 3 0 0 none
-    ∷ Pushed 1 0 0 none
-    ∷ Pushed 1 0 0 (some 19_885)
-    ∷ Pushed 1 0 0 (some 22_685)
-    ∷ Pushed 1 0 0 none
-    ∷ Pushed 1 0 0 (some 24_143)
+    ≡ Pushed 3 0 0 None
+    ∷ Pushed 1 0 0 None
+    ∷ Pushed 1 0 0 (Some 19_885)
+    ∷ Pushed 1 0 0 (Some 22_685)
+    ∷ Pushed 1 0 0 None
+    ∷ Pushed 1 0 0 (Some 24_143)
     ∷ []
 unfolding computes
 new-period = refl

@@ -6,8 +6,7 @@
 --   by-latency    the late window follows the latency: 1,250,000 where that is 1,000,000
 --   drains-one    rule 6 takes a draining run "with one packet buffered", not with two
 --   whole_run     a run goes on while budget remains: a drop, eleven sends and a wait with budget 12
-use Rattle.std.specs.Prelude.{◌≡◌, refl, false, true, [], ◌∷◌, length}
-use Rattle.std.proofs.Math.Option.{none}
+use Rattle.std.specs.Prelude.{◌≡◌, refl, false, true, [], ◌∷◌, length, None}
 use Rattle.rules.specs.Calls.{Ran, ack, all_records, answer, calls, message, nak, runs}
 use Rattle.rules.specs.Computing.{computes}
 use Rattle.rules.specs.Run.{run}
@@ -67,7 +66,7 @@ costs = (refl, refl, refl, refl, refl)
 -- went together.
 pub waiting :
     (shows (small 2 9 1)
-    (message 0 0 (bytes 20) ∷ runs 0 9 false 9 ∷ ack 3 none none ∷ runs 0 9 false 9 ∷ []) (begun (small 2 9 1))
+    (message 0 0 (bytes 20) ∷ runs 0 9 false 9 ∷ ack 3 None None ∷ runs 0 9 false 9 ∷ []) (begun (small 2 9 1))
     ≡ (1 ∷ 128 ∷ 4 ∷ 2 ∷ 0 ∷ 0 ∷ 0 ∷ [])
     ∷ (1 ∷ 0 ∷ 4 ∷ 3 ∷ 0 ∷ 0 ∷ 0 ∷ [])
     ∷ (6 ∷ 0 ∷ 0 ∷ 0 ∷ 2 ∷ 10_000 ∷ 0 ∷ [])
@@ -93,8 +92,8 @@ by-latency = (refl, refl)
 -- 9 and 10 are sent: the run waits for input; after ACK 10 only 10 is buffered, and is flushed
 pub drains-one :
     (sent (small 9 4 9) (runs 8 3 true 9 ∷ []) pair ≡ (5 ∷ 0 ∷ []) ∷ [])
-    × (sent (small 9 4 9) (ack 10 none none ∷ runs 8 3 true 9 ∷ []) pair ≡ (1 ∷ 10 ∷ []) ∷ (5 ∷ 0 ∷ []) ∷ [])
-    × (sent (small 9 4 9) (ack 10 none none ∷ runs 8 3 false 9 ∷ []) pair ≡ (5 ∷ 0 ∷ []) ∷ [])
+    × (sent (small 9 4 9) (ack 10 None None ∷ runs 8 3 true 9 ∷ []) pair ≡ (1 ∷ 10 ∷ []) ∷ (5 ∷ 0 ∷ []) ∷ [])
+    × (sent (small 9 4 9) (ack 10 None None ∷ runs 8 3 false 9 ∷ []) pair ≡ (5 ∷ 0 ∷ []) ∷ [])
 unfolding computes
 drains-one = (refl, refl, refl)
 

@@ -3,25 +3,24 @@
 --   payloads, payloads_by   all payloads pushed by accepted messages: the k-th is that of the k-th packet ever pushed
 --   Holds                   the store holds the payload of every buffered packet, at its place and with its length; ps
 --                           are the payloads ever pushed
-use Rattle.std.specs.Prelude.{◌≡◌, List, [], ◌++◌, ◌∷◌, ◌+◌, ◌<◌, ◌≤◌, suc, zero, ℕ, drop, get_or, length, take}
-use Rattle.rules_refusals.specs.declared.Verdict.{Verdict}
-use Rattle.rules_refusals.specs.declared.Verdict.TheVariants.{Accepted, Refused}
+use Rattle.std.specs.Prelude.{◌≡◌, List, [], ◌++◌, ◌∷◌, ◌+◌, ◌<◌, ◌≤◌, suc, zero, ℕ, drop, get_or, length, take, Ok, Err}
 use Rattle.rules_packets.specs.Split.{count, length_of, start_of}
 use Rattle.rules.specs.Calls.{Call, ack, answer, message, nak, payload, runs, verdict_of}
 use Rattle.rules.specs.Sender.{Sender, end, packet}
 use Rattle.rules.specs.Settings.{Settings, place_of, store_size}
+use Rattle.rules_refusals.specs.Verdict.{Verdict}
 
 unfoldable pub cuts : ℕ → List ℕ → ℕ → ℕ → List (List ℕ)
 cuts size bytes i zero = []
 cuts size bytes i (suc n) = take (length_of size (length bytes) i) (drop (start_of size i) bytes) ∷ cuts size bytes (suc i) n
 
 unfoldable pub payloads_by : Settings → Verdict → Call → List (List ℕ)
-payloads_by c Accepted (message time now bytes) = cuts c.size bytes 0 (count c.size (length bytes))
-payloads_by c Accepted (ack number full rtt) = []
-payloads_by c Accepted (nak words room) = []
-payloads_by c Accepted (runs now p draining room) = []
-payloads_by c Accepted (payload number) = []
-payloads_by c (Refused r) k = []
+payloads_by c (Ok _) (message time now bytes) = cuts c.size bytes 0 (count c.size (length bytes))
+payloads_by c (Ok _) (ack number full rtt) = []
+payloads_by c (Ok _) (nak words room) = []
+payloads_by c (Ok _) (runs now p draining room) = []
+payloads_by c (Ok _) (payload number) = []
+payloads_by c (Err r) k = []
 
 unfoldable pub payloads : Settings → List Call → Sender → List (List ℕ)
 payloads c [] s = []

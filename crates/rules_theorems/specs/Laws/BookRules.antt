@@ -4,10 +4,9 @@
 --   Fields, Kept c s               the fields that don't depend on the packets; all rules
 --   ascends_facts, facts_ascends   `ascends` decides the order of a list
 --   kept_facts, facts_kept         `kept c s` is true exactly where the rules hold
-use Rattle.std.specs.Prelude.{◌≡◌, Bool, ◌&&◌, false, true, ◌<◌, ◌^◌, ◌≤◌, suc, zero, ℕ, leb, ltb, drop, get_or, length, take}
+use Rattle.std.specs.Prelude.{◌≡◌, Bool, ◌&&◌, false, true, ◌<◌, ◌^◌, ◌≤◌, suc, zero, ℕ, leb, ltb, drop, get_or, length, take, Option, Some, None}
 use Rattle.std.proofs.Math.Path.{refl}
 use mathlib.Core.List.{List, [], ◌∷◌}
-use Rattle.std.proofs.Math.Option.{Option, none, some}
 use Rattle.std.proofs.Common.{eq-eqb, eqb-true, le-leb, leb-true, lt-ltb, ltb-true}
 use Rattle.laws.specs.Ascending.{Ascends}
 use Rattle.laws.specs.Bools.{and_l, and_r, and_both}
@@ -44,8 +43,8 @@ pub record Unsent (c : Settings) (p : Packet) : Type 0 where
   pub unset : p.resend ≡ 0
 
 abbrev pub HeldIn : Settings → Option Held → Type 0
-HeldIn c none = Unit {0}
-HeldIn c (some h) = (h.slot < capacity c) × (h.len ≤ c.size)
+HeldIn c None = Unit {0}
+HeldIn c (Some h) = (h.slot < capacity c) × (h.len ≤ c.size)
 
 -- the fields that don't depend on the packets
 pub record Fields (c : Settings) (r : Rtt) (m e : ℕ) (h : Option Held) (p : SenderCongestionControl) : Type 0 where
@@ -145,14 +144,14 @@ facts_unsent c p f =
 
 held_facts : (c : Settings) (h : Option Held) → held_is_kept c h ≡ true → HeldIn c h
 unfolding held_is_kept
-held_facts c none e = tt
-held_facts c (some h) e =
+held_facts c None e = tt
+held_facts c (Some h) e =
     (ltb-true _ _ (and_l (ltb h.slot (capacity c)) _ e), leb-true _ _ (and_r (ltb h.slot (capacity c)) (leb h.len c.size) e))
 
 facts_held : (c : Settings) (h : Option Held) → HeldIn c h → held_is_kept c h ≡ true
 unfolding held_is_kept
-facts_held c none f = refl
-facts_held c (some h) f = and_both (ltb h.slot (capacity c)) _ (lt-ltb _ _ f.0) (le-leb _ _ f.1)
+facts_held c None f = refl
+facts_held c (Some h) f = and_both (ltb h.slot (capacity c)) _ (lt-ltb _ _ f.0) (le-leb _ _ f.1)
 
 pub kept_facts : (c : Settings) (s : Sender) → kept c s ≡ true → Kept c s
 unfolding kept

@@ -5,8 +5,7 @@
 --   is_due, Applies   the packet that is due; what holds if a rule is chosen
 --   Paid t            what a turn of rules 2 to 7 sends
 --   wait-small        the time to a resend is held
-use Rattle.std.specs.Prelude.{◌≡◌, Bool, false, true, [], ◌∷◌, ◌%◌, ◌-◌, ◌^◌, ◌<◌, ◌≤◌, suc, zero, ℕ, length, take}
-use Rattle.std.proofs.Math.Option.{Option, none, some}
+use Rattle.std.specs.Prelude.{◌≡◌, Bool, false, true, [], ◌∷◌, ◌%◌, ◌-◌, ◌^◌, ◌<◌, ◌≤◌, suc, zero, ℕ, length, take, Option, Some, None}
 use Rattle.std.proofs.Common.{arith}
 use Rattle.rules.specs.Records.{Action, is_send, sends}
 use Rattle.rules.specs.Run.{Result, Rule, Turn, dropped, due, earliest, flush, input, join, late, loop, loss, others, unsent, wait, window}
@@ -35,14 +34,14 @@ module _ (c : Settings) (now : ℕ) where
 
     abbrev pub Applies : Rule → Sender → Type 0
     Applies (loss x xs) s = s.lost ≡ x ∷ xs
-    Applies (due n) s = (s.lost ≡ []) × (is_due s ≡ some n)
-    Applies window s = (s.lost ≡ []) × (is_due s ≡ none) × (c.flow < sent_of s)
-    Applies unsent s = (s.lost ≡ []) × (is_due s ≡ none) × (sent_of s ≤ c.flow) × (s.next < end s)
+    Applies (due n) s = (s.lost ≡ []) × (is_due s ≡ Some n)
+    Applies window s = (s.lost ≡ []) × (is_due s ≡ None) × (c.flow < sent_of s)
+    Applies unsent s = (s.lost ≡ []) × (is_due s ≡ None) × (sent_of s ≤ c.flow) × (s.next < end s)
     Applies flush s =
-        (s.lost ≡ []) × (is_due s ≡ none) × (sent_of s ≤ c.flow) × (end s ≤ s.next) × (draining ≡ true) × (length s.packets ≡ 1)
+        (s.lost ≡ []) × (is_due s ≡ None) × (sent_of s ≤ c.flow) × (end s ≤ s.next) × (draining ≡ true) × (length s.packets ≡ 1)
     Applies input s =
         (s.lost ≡ [])
-        × (is_due s ≡ none)
+        × (is_due s ≡ None)
         × (sent_of s ≤ c.flow)
         × (end s ≤ s.next)
         × ¬ ((draining ≡ true) × (length s.packets ≡ 1))

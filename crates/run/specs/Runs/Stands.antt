@@ -5,7 +5,7 @@
 --   Answers                    an outcome of the call is an answer of the rules
 --   run_refines                the call answers and leaves what the rules say
 --   run_short, run-broken      if an area is too short; and otherwise, if the books break a rule
-use Rattle.std.specs.Prelude.{◌≡◌, Bool, ◌&&◌, cond, List, ◌++◌, leb, eqb, length}
+use Rattle.std.specs.Prelude.{◌≡◌, Bool, ◌&&◌, cond, List, ◌++◌, leb, eqb, length, Result, Ok, Err, ℕ}
 use Rattle.std.proofs.Math.Path.{refl, sym, ap, subst}
 use Rattle.std.proofs.Common.{◌∙◌, arith, leb-false, lt-ltb, le-ltb}
 use Rattle.std.proofs.Math.Bool.{true, false}
@@ -15,10 +15,8 @@ use Rattle.std.proofs.Math.Decide.{dec_lt}
 use Rattle.std.proofs.Math.Dec.{ltb}
 use Rattle.rules_refusals.specs.declared.Refusal.{Refusal}
 use Rattle.rules_refusals.specs.declared.Refusal.TheVariants.{BadStore, BadState, BadTime, NoRoom}
-use Rattle.rules_refusals.specs.declared.Verdict.{Verdict}
-use Rattle.rules_refusals.specs.declared.Verdict.TheVariants.{Accepted, Refused}
 use Rattle.rules_refusals.specs.Table.{number_of}
-use Rattle.rules_refusals.specs.Verdict.{when, answer}
+use Rattle.rules_refusals.specs.Verdict.{Verdict, accepted, when, answer}
 use Rattle.rules.specs.Settings.{Settings}
 use Rattle.rules.specs.Sender as rules
 use Rattle.rules_theorems.specs.Laws.BookRules.{Kept, facts_kept}
@@ -37,22 +35,20 @@ use Rattle.buffer_run.specs.Run.Laws.Whole.{run_refines as buffer-refines}
 use Rattle.sender.specs.declared.Sender.{Sender}
 use Rattle.sender.specs.SenderAndAreas.{Books, books, state_of, rules_of, areas_short, kept, judge}
 use Rattle.sender.specs.SenderAndAreas.Stands.{StandsFor, areas-long, judge-accepted, judge-short, judge-broken}
-use Rattle.run.specs.declared.Ran.{Ran}
-use Rattle.run.specs.declared.Ran.TheVariants as ran
 use Rattle.run.specs.Runs.{Runs, runs, room_for, run_verdict, ran_by, run}
 
-abbrev pub verdict_of : Ran → Verdict
-verdict_of (ran.Done s n left) = Accepted
-verdict_of (ran.Refused r) = Refused r
+abbrev pub verdict_of : Result (Sender × ℕ × ℕ) Refusal → Verdict
+verdict_of (Ok (s, n, left)) = accepted
+verdict_of (Err r) = Err r
 
 -- a refused run leaves the caller's sender
-abbrev pub sender_after : Sender → Ran → Sender
-sender_after s (ran.Done t n left) = t
-sender_after s (ran.Refused r) = s
+abbrev pub sender_after : Sender → Result (Sender × ℕ × ℕ) Refusal → Sender
+sender_after s (Ok (t, n, left)) = t
+sender_after s (Err r) = s
 
-abbrev pub Said : Ran → List ℕ → List ℕ → calls.Said → Type 0
-Said (ran.Done t n left) out list said = (list ≡ written 0 (calls.records_of said) out) × (n ≡ length (calls.records_of said)) × (said ≡ calls.Ran (calls.records_of said) left)
-Said (ran.Refused r) out list said = (list ≡ out) × (said ≡ calls.Nothing)
+abbrev pub Said : Result (Sender × ℕ × ℕ) Refusal → List ℕ → List ℕ → calls.Said → Type 0
+Said (Ok (t, n, left)) out list said = (list ≡ written 0 (calls.records_of said) out) × (n ≡ length (calls.records_of said)) × (said ≡ calls.Ran (calls.records_of said) left)
+Said (Err r) out list said = (list ≡ out) × (said ≡ calls.Nothing)
 
 pub record Answers (g : Books) (out : List ℕ) (l : Runs) (a : calls.Answer) : Type 0 where
   pub verdict : verdict_of l.answer ≡ a.verdict
@@ -134,12 +130,12 @@ module _ (g : Books) (s : rules.Sender) (S : StandsFor g s) (K : Kept (rules_of 
   abbrev call : calls.Call
   call = calls.runs now p draining (length out / 24)
 
-  refused-by : (r : Refusal) → tests.run_verdict c now p (length out / 24) s ≡ Refused r
-      → Answers g out (runs (ran.Refused r) g.ring g.lost out) (calls.answer c call s)
+  refused-by : (r : Refusal) → tests.run_verdict c now p (length out / 24) s ≡ Err r
+      → Answers g out (runs (Err r) g.ring g.lost out) (calls.answer c call s)
   unfolding calls.answer calls.verdict_of calls.answer_by calls.left calls.with_rtt
   refused-by r e = rw e (record { verdict = refl; said = (refl, refl); settings = refl; stands = subst (StandsFor g) (sym (cond_same (eqb (number_of r) 11) s)) S })
 
-  taken : now < 2 ^ 48 → tests.run_verdict c now p (length out / 24) s ≡ Accepted
+  taken : now < 2 ^ 48 → tests.run_verdict c now p (length out / 24) s ≡ accepted
       → Answers g out (ran_by g.sender (Run.run c now draining p (state_of g) out)) (calls.answer c call s)
   unfolding calls.answer calls.verdict_of calls.answer_by calls.said_by calls.after calls.records_of
   taken early e =
@@ -151,7 +147,7 @@ module _ (g : Books) (s : rules.Sender) (S : StandsFor g s) (K : Kept (rules_of 
         stands = record { buffer = W.state; pacing = S.pacing ∙ sym (run-pacing c now draining p s) };
       })
 
-  judged : judge (areas_short c (length g.ring) (length g.lost)) g ≡ Accepted
+  judged : judge (areas_short c (length g.ring) (length g.lost)) g ≡ accepted
   judged = judge-accepted g s S K (areas_short c (length g.ring) (length g.lost)) (areas-long g s S)
 
   few : g.sender.buffer.ring.len ≡ length s.packets
@@ -159,7 +155,7 @@ module _ (g : Books) (s : rules.Sender) (S : StandsFor g s) (K : Kept (rules_of 
 
   go : (a b : Bool) → leb (2 ^ 48) now ≡ a → ltb (length out / 24) (min p (length s.packets) + 3) ≡ b
       → Answers g out
-      (answer (λ r. runs (ran.Refused r) g.ring g.lost out) (when a BadTime (when b NoRoom Accepted))
+      (answer (λ r. runs (Err r) g.ring g.lost out) (when a BadTime (when b NoRoom accepted))
       (ran_by g.sender (Run.run c now draining p (state_of g) out))) (calls.answer c call s)
   unfolding tests.run_verdict
   go true b e f = refused-by BadTime (rw (facts_kept c s K, e))
@@ -175,11 +171,11 @@ module _ (g : Books) (s : rules.Sender) (S : StandsFor g s) (K : Kept (rules_of 
       (go (leb (2 ^ 48) now) (ltb (length out / 24) (min p (length s.packets) + 3)) refl refl)
 
 module _ (g : Books) (now p : ℕ) (draining : Bool) (out : List ℕ) where
-  pub run_short : areas_short (rules_of g) (length g.ring) (length g.lost) ≡ true → run g now p draining out ≡ runs (ran.Refused BadStore) g.ring g.lost out
+  pub run_short : areas_short (rules_of g) (length g.ring) (length g.lost) ≡ true → run g now p draining out ≡ runs (Err BadStore) g.ring g.lost out
   unfolding run run_verdict
   run_short e = rw (e, judge-short g)
 
   pub run-broken : areas_short (rules_of g) (length g.ring) (length g.lost) ≡ false → kept g ≡ false
-      → run g now p draining out ≡ runs (ran.Refused BadState) g.ring g.lost out
+      → run g now p draining out ≡ runs (Err BadState) g.ring g.lost out
   unfolding run run_verdict
   run-broken e b = rw (e, judge-broken g b)

@@ -6,17 +6,17 @@ use Rattle.run_choice.proofs.rule_of_the_rest.Goals as goal
 pub returns-then-flow_window_exceeded : goal.returns-then-flow_window_exceeded
 returns-then-flow_window_exceeded c = rest_window _ _ _ (sym c.flow_window_exceeded.ensures ∙ c.if-flow_window_exceeded.true)
 
-pub returns-then-b-ring : goal.returns-then-b-ring
-returns-then-b-ring c =
+pub returns-then-b : goal.returns-then-b
+returns-then-b c =
     rest-unsent _ _ _ (sym c.flow_window_exceeded.ensures ∙ c.if-flow_window_exceeded.false)
-    (lt-ltb _ _ c.if-b-ring.true)
+    (lt-ltb _ _ c.if-b.true)
 
-pub returns-then-draining-ring : goal.returns-then-draining-ring
-returns-then-draining-ring c =
+pub returns-then-draining-b : goal.returns-then-draining-b
+returns-then-draining-b c =
     rest_flush _ _ _ (sym c.flow_window_exceeded.ensures ∙ c.if-flow_window_exceeded.false)
-    (le-ltb _ _ c.if-b-ring.false) c.if-draining-ring.true
+    (le-ltb _ _ c.if-b.false) c.if-draining-b.true
 
 pub returns : goal.returns
 returns c =
     rest-input _ _ _ (sym c.flow_window_exceeded.ensures ∙ c.if-flow_window_exceeded.false)
-    (le-ltb _ _ c.if-b-ring.false) c.if-draining-ring.false
+    (le-ltb _ _ c.if-b.false) c.if-draining-b.false

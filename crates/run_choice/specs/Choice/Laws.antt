@@ -1,16 +1,14 @@
 -- What the code that chooses uses, on plain lists.
---   option_of d               the packet due, or none
 --   Timed b ring, sent_ones   what `earliest` requires: the ring lies in its area, the sent packets are buffered; these
 --   late-none, late-front, late-start, late-go, late-stop, late-end   rule 1's count, packet by packet
---   or_else, found, due-start, due-nearer, due-not, due-end   rule 3's choice, packet by packet
+--   or_else, due-start, due-nearer, due-not, due-end   rule 3's choice, packet by packet
 --   rest_window, rest-unsent, rest_flush, rest-input, rule-loss, rule-due, rule-rest
 --                            the first that applies, from the code's tests
-use Rattle.std.specs.Prelude.{◌≡◌, Bool, ◌||◌, ◌&&◌, cond, take}
+use Rattle.std.specs.Prelude.{◌≡◌, Bool, ◌||◌, ◌&&◌, cond, take, Option, Some, None, ℕ}
 use Rattle.std.proofs.Math.Path.{refl, ap}
 use Rattle.std.proofs.Common.{sym, ◌∙◌, arith, length-take, drop-cons, get_or-take}
 use Rattle.std.proofs.Math.Bool.{true, false}
 use mathlib.Core.List.{List, [], ◌∷◌}
-use Rattle.std.proofs.Math.Option.{Option, none, some}
 use Prim.Native.Nat.{ℕ, zero, suc, ◌+◌, ◌≤◌, ◌<◌}
 use Rattle.std.proofs.Math.Numerals.{add-one}
 use Rattle.std.proofs.Math.Dec.{ltb, eqb}
@@ -26,14 +24,8 @@ use Rattle.rules.specs.Run.{late, late_from, earliest, or_here}
 use Rattle.buffer.specs.declared.SendBuffer.{SendBuffer}
 use Rattle.buffer.specs.State.{packet_of, packets_of}
 use Rattle.buffer.specs.State.View.{packets-length, packets-at}
-use Rattle.run_choice.specs.declared.Due.{Due}
-use Rattle.run_choice.specs.declared.Due.TheVariants.{Nothing, At}
 use Rattle.run_choice.specs.declared.Rule.TheVariants as rule
 use Rattle.run_choice.specs.Choice.{rule_by, due_at, rule_at}
-
-abbrev pub option_of : Due → Option ℕ
-option_of Nothing = none
-option_of (At i) = some i
 
 pub record Timed (b : SendBuffer) (ring : List ℕ) : Type 0 where
   pub placed : Placed b.ring ring
@@ -101,21 +93,17 @@ module _ (c : Settings) (now : ℕ) (r : Ring) (ring : List ℕ) where
 
 -- the choice among the packets behind, or else what was found before them
 abbrev pub or_else : Option ℕ → Option ℕ → Option ℕ
-or_else none o = o
-or_else (some m) o = some m
+or_else None o = o
+or_else (Some m) o = Some m
 
-or-none : (o : Option ℕ) → or_else o none ≡ o
-or-none none = refl
-or-none (some m) = refl
+or-none : (o : Option ℕ) → or_else o None ≡ o
+or-none None = refl
+or-none (Some m) = refl
 
-here-or : (o : Option ℕ) (i : ℕ) (d : Option ℕ) → or_else (or_here i o) d ≡ or_else o (some i)
+here-or : (o : Option ℕ) (i : ℕ) (d : Option ℕ) → or_else (or_here i o) d ≡ or_else o (Some i)
 unfolding or_here
-here-or none i d = refl
-here-or (some m) i d = refl
-
--- an index below n, or none
-abbrev pub found : ℕ → ℕ → Option ℕ
-found n k = cond (ltb k n) (some k) none
+here-or None i d = refl
+here-or (Some m) i d = refl
 
 module _ (b : SendBuffer) (ring : List ℕ) (T : Timed b ring) where
   abbrev pub sent_ones : List Packet
@@ -128,54 +116,50 @@ module _ (b : SendBuffer) (ring : List ℕ) (T : Timed b ring) where
       rw (add-one i) (drop-cons sent_ones i nothing long
       ∙ ap (λ (p : Packet). p ∷ drop (suc i) sent_ones) (get_or-take b.sent (packets_of b.ring ring) i nothing h ∙ packets-at b.ring ring i inside))
 
-  pub due-start : (now : ℕ) → or_else (earliest now 0 (drop 0 sent_ones)) (found b.sent b.sent) ≡ due_at now b ring
-  due-start now =
-      let no : ltb b.sent b.sent ≡ false = le-ltb b.sent b.sent (omega arith) in
-      ap (λ (t : Bool). or_else (earliest now 0 sent_ones) (cond t (some b.sent) none)) no ∙ or-none (earliest now 0 sent_ones)
+  pub due-start : (now : ℕ) → or_else (earliest now 0 (drop 0 sent_ones)) None ≡ due_at now b ring
+  due-start now = or-none (earliest now 0 sent_ones)
 
-  module _ (i before k : ℕ) (h : i < b.sent) where
+  module _ (i before : ℕ) (o : Option ℕ) (h : i < b.sent) where
     pub due-nearer : (read_e ring (slot_of b.ring i)).resend < before
-        → or_else (earliest before i (drop i sent_ones)) (found b.sent k)
-        ≡ or_else (earliest (read_e ring (slot_of b.ring i)).resend (i + 1) (drop (i + 1) sent_ones)) (found b.sent i)
+        → or_else (earliest before i (drop i sent_ones)) o
+        ≡ or_else (earliest (read_e ring (slot_of b.ring i)).resend (i + 1) (drop (i + 1) sent_ones)) (Some i)
     unfolding earliest packet_of
     due-nearer l =
         let q = read_e ring (slot_of b.ring i) in
-        let yes : ltb i b.sent ≡ true = lt-ltb i b.sent h in
         let less : ltb q.resend before ≡ true = lt-ltb q.resend before l in
-        ap (λ (ps : List Packet). or_else (earliest before i ps) (found b.sent k)) (sent-at i h)
-        ∙ rw (less, yes, add-one i) (here-or (earliest q.resend (suc i) (drop (suc i) sent_ones)) i (found b.sent k))
+        ap (λ (ps : List Packet). or_else (earliest before i ps) o) (sent-at i h)
+        ∙ rw (less, add-one i) (here-or (earliest q.resend (suc i) (drop (suc i) sent_ones)) i o)
 
     pub due-not : before ≤ (read_e ring (slot_of b.ring i)).resend
-        → or_else (earliest before i (drop i sent_ones)) (found b.sent k)
-        ≡ or_else (earliest before (i + 1) (drop (i + 1) sent_ones)) (found b.sent k)
+        → or_else (earliest before i (drop i sent_ones)) o ≡ or_else (earliest before (i + 1) (drop (i + 1) sent_ones)) o
     unfolding earliest packet_of
     due-not l =
         let q = read_e ring (slot_of b.ring i) in
         let more : ltb q.resend before ≡ false = le-ltb q.resend before l in
-        ap (λ (ps : List Packet). or_else (earliest before i ps) (found b.sent k)) (sent-at i h) ∙ rw (more, add-one i)
+        ap (λ (ps : List Packet). or_else (earliest before i ps) o) (sent-at i h) ∙ rw (more, add-one i)
 
-  pub due-end : (i before k : ℕ) → b.sent ≤ i → or_else (earliest before i (drop i sent_ones)) (found b.sent k) ≡ found b.sent k
+  pub due-end : (i before : ℕ) (o : Option ℕ) → b.sent ≤ i → or_else (earliest before i (drop i sent_ones)) o ≡ o
   unfolding earliest
-  due-end i before k h =
+  due-end i before o h =
       let short : length sent_ones ≤ i = simp (length-take, packets-length) (omega arith) in
-      ap (λ (ps : List Packet). or_else (earliest before i ps) (found b.sent k)) (drop_of_length-le sent_ones short)
+      ap (λ (ps : List Packet). or_else (earliest before i ps) o) (drop_of_length-le sent_ones short)
 
 -- ## The first that applies
 
 module _ (o m x : Bool) where
-  pub rest_window : o ≡ true → rule.Window ≡ rule_by 0 none o m x
+  pub rest_window : o ≡ true → rule.Window ≡ rule_by 0 None o m x
   unfolding rule_by
   rest_window e = rw e
 
-  pub rest-unsent : o ≡ false → m ≡ true → rule.Unsent ≡ rule_by 0 none o m x
+  pub rest-unsent : o ≡ false → m ≡ true → rule.Unsent ≡ rule_by 0 None o m x
   unfolding rule_by
   rest-unsent e f = rw (e, f)
 
-  pub rest_flush : o ≡ false → m ≡ false → x ≡ true → rule.Flush ≡ rule_by 0 none o m x
+  pub rest_flush : o ≡ false → m ≡ false → x ≡ true → rule.Flush ≡ rule_by 0 None o m x
   unfolding rule_by
   rest_flush e f g = rw (e, f, g)
 
-  pub rest-input : o ≡ false → m ≡ false → x ≡ false → rule.Input ≡ rule_by 0 none o m x
+  pub rest-input : o ≡ false → m ≡ false → x ≡ false → rule.Input ≡ rule_by 0 None o m x
   unfolding rule_by
   rest-input e f g = rw (e, f, g)
 
@@ -188,11 +172,11 @@ module _ (c : Settings) (now : ℕ) (draining : Bool) (b : SendBuffer) (ring : L
       go zero l = absurd (omega arith)
       go (suc n) l = refl
 
-  pub rule-due : (i : ℕ) → b.lost ≡ 0 → due_at now b ring ≡ some i → rule.Due i ≡ rule_at c now draining b ring
+  pub rule-due : (i : ℕ) → b.lost ≡ 0 → due_at now b ring ≡ Some i → rule.Due i ≡ rule_at c now draining b ring
   unfolding rule_at rule_by
   rule-due i e d = rw (e, d)
 
-  pub rule-rest : b.lost ≡ 0 → due_at now b ring ≡ none
-      → rule_by 0 none (ltb c.flow b.sent) (ltb b.sent b.ring.len) (draining && eqb b.ring.len 1) ≡ rule_at c now draining b ring
+  pub rule-rest : b.lost ≡ 0 → due_at now b ring ≡ None
+      → rule_by 0 None (ltb c.flow b.sent) (ltb b.sent b.ring.len) (draining && eqb b.ring.len 1) ≡ rule_at c now draining b ring
   unfolding rule_at
   rule-rest e d = rw (e, d)

@@ -1,7 +1,8 @@
 -- What the code of a sending uses.
 --   Recorded k m e r                       r is the record of a sending of the entry e, whose number is m on the wire
 --   place_bits_of, again-bit, recorded     the record's flags, and the record
---   wait_product, wait-first, wait-again   the time from now to the resend
+--   wait-first, wait-again                 the time from now to the resend
+--   wait_product                           its product is bounded: about the definition, no code cites it now
 --   Sendable, sent_books, sent-from        what a sending requires, the books after it, and the whole from its parts
 --   acts_as                                the same for an equal turn
 --   written-append                         the records of two turns in the list
@@ -26,8 +27,8 @@ use Rattle.rules.specs.Run.{wait}
 use Rattle.buffer.specs.declared.SendBuffer.{SendBuffer}
 use Rattle.buffer.specs.State.{State, state, place_from, packet_of, packets_of, put}
 use Rattle.buffer.specs.State.View.{packets-at}
-use Rattle.run_effects.specs.declared.Written.{Written}
-use Rattle.run_effects.specs.Sending.{Turned, Acts, stamped, sent_words, sent_as, written}
+use Rattle.run_effects.specs.declared.Records.{Records}
+use Rattle.run_effects.specs.Sending.{Turned, Pushed, Acts, stamped, sent_words, sent_as, written}
 
 pub record Recorded (k : Kind) (m : ℕ) (e : Entry) (r : Record) : Type 0 where
   pub is : (n : ℕ) → m ≡ wire n → action_of r ≡ send_record k n (packet_of e)
@@ -78,52 +79,55 @@ pub record Sendable (b : SendBuffer) (i now : ℕ) (ring : List ℕ) : Type 0 wh
   pub len : (read_e ring (slot_of b.ring i)).len ≤ 1_456
   pub count : (read_e ring (slot_of b.ring i)).count ≤ 65_535
 
--- the books after it, and how many records there are
-abbrev pub sent_books : ℕ → ℕ → SendBuffer → Written
-sent_books sent n b = record { buffer = put b b.ring b.front.0 sent b.lost b.bytes; count = n + 1 }
+-- the books after it
+abbrev pub sent_books : ℕ → SendBuffer → SendBuffer
+sent_books sent b = put b b.ring b.front.0 sent b.lost b.bytes
 
 -- one more record
 one_written : (n : ℕ) (a : Action) (out : List ℕ) → paste out (n * 24) (encode a) 24 ≡ written n (a ∷ []) out
 unfolding written
 one_written n a out = refl
 
-sent_acts : (k : Kind) (now i sent n : ℕ) (b : SendBuffer) (ring out : List ℕ) (number : SeqNumber) (r : Record) → i < b.ring.len
+sent_acts : (k : Kind) (now i sent : ℕ) (b : SendBuffer) (ring : List ℕ) (given left : Records) (number : SeqNumber) (r : Record) → i < b.ring.len
     → number.0 ≡ plus seqs b.front.0 i
     → Recorded k number.0 (read_e ring (slot_of b.ring i)) r
-    → Acts (sent_as k now i sent) b ring n out (sent_books sent n b) (sent_words now i b ring) (paste out (n * 24) (encode (action_of r)) 24)
+    → Pushed given (action_of r) left
+    → Acts (sent_as k now i sent) b ring given (sent_books sent b) (sent_words now i b ring) left
 unfolding sent_as
-sent_acts k now i sent n b ring out number r h e R = record {
-  is = λ lost. record {
-    state = refl;
-    count = refl;
-    list =
-        rw (R.is (b.front.0 + i) (e ∙ plus-is seqs b.front.0 i), ← packets-at b.ring ring i h)
-        (one_written n (send_record k (b.front.0 + i) (get_or (packets_of b.ring ring) i nothing)) out);
-  };
-}
+sent_acts k now i sent b ring given left number r h e R P =
+    let list : paste given.list.now (given.count * 24) (encode (action_of r)) 24 ≡ written given.count (send_record k (b.front.0 + i) (get_or (packets_of b.ring ring) i nothing) ∷ []) given.list.now =
+    rw (R.is (b.front.0 + i) (e ∙ plus-is seqs b.front.0 i), ← packets-at b.ring ring i h)
+    (one_written given.count (send_record k (b.front.0 + i) (get_or (packets_of b.ring ring) i nothing)) given.list.now) in
+    record {
+      is = λ lost. record { acted = record { state = refl; count = P.count; list = P.list ∙ list }; same = P.same };
+    }
 
-pub sent-from : (k : Kind) (now i sent n : ℕ) (b : SendBuffer) (ring out : List ℕ) (e x : Entry) (number : SeqNumber) (r : Record) (words left : List ℕ) → i < b.ring.len
+pub sent-from : (k : Kind) (now i sent : ℕ) (b : SendBuffer) (ring : List ℕ) (given left : Records) (e x : Entry) (number : SeqNumber) (r : Record) (words : List ℕ) → i < b.ring.len
     → e ≡ read_e ring (slot_of b.ring i)
     → x ≡ stamped now b.rtt e
     → words ≡ write_e ring (slot_of b.ring i) x
     → number.0 ≡ plus seqs b.front.0 i
     → Recorded k number.0 e r
-    → left ≡ paste out (n * 24) (encode (action_of r)) 24
-    → Acts (sent_as k now i sent) b ring n out (sent_books sent n b) words left
-sent-from k now i sent n b ring out e x number r words left h p q w m R o =
-    rw (w, q, p, o) (sent_acts k now i sent n b ring out number r h m (rw p at R))
+    → Pushed given (action_of r) left
+    → Acts (sent_as k now i sent) b ring given (sent_books sent b) words left
+sent-from k now i sent b ring given left e x number r words h p q w m R P =
+    rw (w, q, p) (sent_acts k now i sent b ring given left number r h m (rw p at R) P)
 
 -- the same for an equal turn
-pub acts_as : (tn t : State → Turned) (b : SendBuffer) (ring : List ℕ) (n : ℕ) (out : List ℕ) (w : Written) (words left : List ℕ)
+pub acts_as : (tn t : State → Turned) (b : SendBuffer) (ring : List ℕ) (given : Records) (after : SendBuffer) (words : List ℕ) (left : Records)
     → ((lost : List ℕ) → tn (state b ring lost) ≡ t (state b ring lost))
-    → Acts t b ring n out w words left
-    → Acts tn b ring n out w words left
-acts_as tn t b ring n out w words left e A = record {
+    → Acts t b ring given after words left
+    → Acts tn b ring given after words left
+acts_as tn t b ring given after words left e A = record {
   is = λ lost.
+      let W = A.is lost in
       record {
-        state = (A.is lost).state ∙ sym (ap (λ (u : Turned). u.state) (e lost));
-        count = (A.is lost).count ∙ sym (ap (λ (u : Turned). n + length u.records) (e lost));
-        list = (A.is lost).list ∙ sym (ap (λ (u : Turned). written n u.records out) (e lost));
+        acted = record {
+          state = W.acted.state ∙ sym (ap (λ (u : Turned). u.state) (e lost));
+          count = W.acted.count ∙ sym (ap (λ (u : Turned). given.count + length u.records) (e lost));
+          list = W.acted.list ∙ sym (ap (λ (u : Turned). written given.count u.records given.list.now) (e lost));
+        };
+        same = W.same;
       };
 }
 

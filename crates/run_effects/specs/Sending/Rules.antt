@@ -29,8 +29,8 @@ use Rattle.buffer.specs.State.Facts.{stands_facts, stands-entry}
 use Rattle.buffer.specs.State.View.{packets-at}
 use Rattle.buffer.specs.Removal.{removed}
 use Rattle.buffer.specs.Removal.Laws.{Removed}
-use Rattle.run_effects.specs.declared.Written.{Written}
-use Rattle.run_effects.specs.Sending.{Turned, Acted, Acts, dropped, sent_as, popped, loss_turn, window_turn, input_turn, holding, flush_turn, written}
+use Rattle.run_effects.specs.declared.Records.{Records}
+use Rattle.run_effects.specs.Sending.{Turned, Acted, Pushed, Wrote, Acts, dropped, sent_as, popped, loss_turn, window_turn, input_turn, holding, flush_turn, written}
 use Rattle.run_effects.specs.Sending.Laws.{Recorded, Sendable}
 use Rattle.run_effects.specs.Sending.Stands.{nearest-below}
 
@@ -50,12 +50,12 @@ pub record Flushable (c : Settings) (st : State) : Type 0 where
   pub ready : Ready c st
   pub one : 1 ≤ st.books.ring.len
 
-pub record Drops (k : ℕ) (b : SendBuffer) (lost : List ℕ) (n : ℕ) (out : List ℕ) (w : Written) (list : List ℕ) : Type 0 where
-  pub is : (xs : List ℕ) → Acted (dropped k) (state b xs lost) n out (state w.buffer xs lost) w.count list
+pub record Drops (k : ℕ) (b : SendBuffer) (lost : List ℕ) (given : Records) (after : SendBuffer) (left : Records) : Type 0 where
+  pub is : (xs : List ℕ) → Wrote (dropped k) (state b xs lost) given (state after xs lost) left
 
 -- a rule that waits changes only the list
-pub record Waits (tn : State → Turned) (b : SendBuffer) (n : ℕ) (out : List ℕ) (w : Written) (list : List ℕ) : Type 0 where
-  pub is : (ring lost : List ℕ) → Acted tn (state b ring lost) n out (state w.buffer ring lost) w.count list
+pub record Waits (tn : State → Turned) (b : SendBuffer) (given : Records) (after : SendBuffer) (left : Records) : Type 0 where
+  pub is : (ring lost : List ℕ) → Wrote tn (state b ring lost) given (state after ring lost) left
 
 pub sendable : {c : Settings} {st : State} {s : Sender} → Stands c st s → Kept c s → (i now : ℕ) → i < st.books.ring.len → now < 2 ^ 48
     → Sendable st.books i now st.ring
@@ -99,28 +99,29 @@ module _ (b : SendBuffer) (now : ℕ) (ring lost : List ℕ) (near : SeqNumber) 
         count = q.count;
       })
 
-  pub loss_acts : (n : ℕ) (out : List ℕ) (w : Written) (words left : List ℕ) → Acts (sent_as ByLoss now i b.sent) rest ring n out w words left
-      → Acted (loss_turn now) (state b ring lost) n out (state w.buffer words lost) w.count left
+  pub loss_acts : (given : Records) (after : SendBuffer) (words : List ℕ) (left : Records) → Acts (sent_as ByLoss now i b.sent) rest ring given after words left
+      → Wrote (loss_turn now) (state b ring lost) given (state after words lost) left
   unfolding loss_turn popped
-  loss_acts n out w words left A =
+  loss_acts given after words left A =
+      let W = A.is lost in
       let st : state rest ring lost ≡ popped (state b ring lost) = rw is in
-      let a = subst (λ (j : ℕ). Acted (sent_as ByLoss now j b.sent) (state rest ring lost) n out (state w.buffer words lost) w.count left) place (A.is lost) in
-      let d = subst (λ (x : State). Acted (sent_as ByLoss now (dist seqs b.front.0 (get_or lost (b.lost - 1) 0)) b.sent) x n out (state w.buffer words lost) w.count left) st a in
-      record { state = d.state; count = d.count; list = d.list }
+      let a = subst (λ (j : ℕ). Acted (sent_as ByLoss now j b.sent) (state rest ring lost) given.count given.list.now (state after words lost) left.count left.list.now) place W.acted in
+      let d = subst (λ (x : State). Acted (sent_as ByLoss now (dist seqs b.front.0 (get_or lost (b.lost - 1) 0)) b.sent) x given.count given.list.now (state after words lost) left.count left.list.now) st a in
+      record { acted = record { state = d.state; count = d.count; list = d.list }; same = W.same }
 
 -- ## Rule 6
 
-pub flush_acts : (c : Settings) (b : SendBuffer) (ring lost : List ℕ) (n : ℕ) (out : List ℕ) (e : Entry) (gone : ℕ) (r : SendBuffer) (a : Record) (list : List ℕ)
+pub flush_acts : (c : Settings) (b : SendBuffer) (ring lost : List ℕ) (given left : Records) (e : Entry) (gone : ℕ) (r : SendBuffer) (a : Record)
     → 0 < b.ring.len
     → b.front.0 < 2 ^ 31
     → e ≡ read_e ring (slot_of b.ring 0)
     → gone ≡ wire_sizes c (take 1 (packets_of b.ring ring))
     → Removed b lost 1 (b.bytes - gone) r
     → Recorded Send b.front.0 e a
-    → list ≡ paste out (n * 24) (encode (action_of a)) 24
-    → Acted (flush_turn c) (state b ring lost) n out (state (holding b.front b.ring.slot e.len r) ring lost) (n + 1) list
+    → Pushed given (action_of a) left
+    → Wrote (flush_turn c) (state b ring lost) given (state (holding b.front b.ring.slot e.len r) ring lost) left
 unfolding flush_turn written packet_of
-flush_acts c b ring lost n out e gone r a list h small p q R A o =
+flush_acts c b ring lost given left e gone r a h small p q R A P =
     let front : get_or (packets_of b.ring ring) 0 nothing ≡ packet_of e = packets-at b.ring ring 0 h ∙ ap packet_of (sym p) in
     let st : state r ring lost ≡ removed 1 (b.bytes - wire_sizes c (take 1 (packets_of b.ring ring))) (state b ring lost) =
     subst (λ (g : ℕ). state r ring lost ≡ removed 1 (b.bytes - g) (state b ring lost)) q (R.is ring) in
@@ -128,38 +129,48 @@ flush_acts c b ring lost n out e gone r a list h small p q R A o =
     let number : b.front.0 ≡ wire (b.front.0 + 0) = sym (ap wire zero-on ∙ mod-eq_of_lt small) in
     let held : ℕ → State → State = λ k x. state (holding b.front b.ring.slot k x.books) x.ring x.lost in
     record {
-      state =
-          ap (held e.len) st
-          ∙ ap (λ (k : ℕ). held k (removed 1 (b.bytes - wire_sizes c (take 1 (packets_of b.ring ring))) (state b ring lost))) (sym (ap (λ (x : Packet). x.len) front));
-      count = refl;
-      list =
-          o
-          ∙ ap (λ (x : Action). paste out (n * 24) (encode x) 24) (A.is (b.front.0 + 0) number ∙ ap (send_record Send (b.front.0 + 0)) (sym front));
+      acted = record {
+        state =
+            ap (held e.len) st
+            ∙ ap (λ (k : ℕ). held k (removed 1 (b.bytes - wire_sizes c (take 1 (packets_of b.ring ring))) (state b ring lost))) (sym (ap (λ (x : Packet). x.len) front));
+        count = P.count;
+        list =
+            P.list
+            ∙ ap (λ (x : Action). paste given.list.now (given.count * 24) (encode x) 24) (A.is (b.front.0 + 0) number ∙ ap (send_record Send (b.front.0 + 0)) (sym front));
+      };
+      same = P.same;
     }
 
 -- ## Rules 1, 4 and 7
 
-pub drop_acts : (k : ℕ) (b : SendBuffer) (lost : List ℕ) (n : ℕ) (out : List ℕ) (to : SeqNumber) (a : Record) (r : SendBuffer) (list : List ℕ) → b.front.0 < 2 ^ 31
+pub drop_acts : (k : ℕ) (b : SendBuffer) (lost : List ℕ) (given left : Records) (to : SeqNumber) (a : Record) (r : SendBuffer) → b.front.0 < 2 ^ 31
     → to.0 ≡ plus seqs b.front.0 k
     → a ≡ plain variants.Drop b.front.0 to.0 0
-    → list ≡ paste out (n * 24) (encode (action_of a)) 24
+    → Pushed given (action_of a) left
     → Removed b lost k b.bytes r
-    → Drops k b lost n out (record { buffer = r; count = n + 1 }) list
+    → Drops k b lost given r left
 unfolding dropped written drop_record
-drop_acts k b lost n out to a r list small e f o R = record {
+drop_acts k b lost given left to a r small e f P R = record {
   is = λ xs.
       record {
-        state = R.is xs;
-        count = refl;
-        list = o ∙ ap (λ (x : Action). paste out (n * 24) (encode x) 24) (rw (f, mod-eq_of_lt small, e ∙ plus-is seqs b.front.0 k));
+        acted = record {
+          state = R.is xs;
+          count = P.count;
+          list = P.list ∙ ap (λ (x : Action). paste given.list.now (given.count * 24) (encode x) 24) (rw (f, mod-eq_of_lt small, e ∙ plus-is seqs b.front.0 k));
+        };
+        same = P.same;
       };
 }
 
-module _ (b : SendBuffer) (n : ℕ) (out : List ℕ) (a : Record) (list : List ℕ) (o : list ≡ paste out (n * 24) (encode (action_of a)) 24) where
-  pub ack_waits : (sent : ℕ) → sent ≡ b.sent → a ≡ plain variants.WaitForAck 0 sent 10_000 → Waits window_turn b n out (record { buffer = b; count = n + 1 }) list
+module _ (b : SendBuffer) (given : Records) (a : Record) (left : Records) (P : Pushed given (action_of a) left) where
+  pub ack_waits : (sent : ℕ) → sent ≡ b.sent → a ≡ plain variants.WaitForAck 0 sent 10_000 → Waits window_turn b given b left
   unfolding written window_turn wait_ack
-  ack_waits sent e f = record { is = λ ring lost. record { state = refl; count = refl; list = o ∙ rw (f, e) } }
+  ack_waits sent e f = record {
+    is = λ ring lost. record { acted = record { state = refl; count = P.count; list = P.list ∙ rw (f, e) }; same = P.same };
+  }
 
-  pub input_waits : a ≡ plain variants.WaitForInput 0 0 0 → Waits input_turn b n out (record { buffer = b; count = n + 1 }) list
+  pub input_waits : a ≡ plain variants.WaitForInput 0 0 0 → Waits input_turn b given b left
   unfolding written input_turn wait_input
-  input_waits f = record { is = λ ring lost. record { state = refl; count = refl; list = o ∙ rw f } }
+  input_waits f = record {
+    is = λ ring lost. record { acted = record { state = refl; count = P.count; list = P.list ∙ rw f }; same = P.same };
+  }

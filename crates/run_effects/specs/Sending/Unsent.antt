@@ -16,7 +16,7 @@ use Rattle.rules_theorems.proofs.RunKept.{first-kept}
 use Rattle.buffer.specs.declared.SendBuffer.{SendBuffer}
 use Rattle.buffer.specs.State.{State, state}
 use Rattle.buffer.specs.State.Stands.{Stands}
-use Rattle.run_effects.specs.declared.Written.{Written}
+use Rattle.run_effects.specs.declared.Records.{Records}
 use Rattle.run_effects.specs.Sending.{Turned, Acted, Acts, sent_as, next_turn, is_sixteenth, idle, sixteen_turn, unsent_turn, written}
 use Rattle.run_effects.specs.Sending.Laws.{Sendable, acts_as, written-append}
 use Rattle.run_effects.specs.Sending.Rules.{Standing, sendable}
@@ -28,38 +28,37 @@ pub record Sixteen (b : SendBuffer) (now : ℕ) (ring : List ℕ) : Type 0 where
 
 -- ## The second sending
 
-module _ (now : ℕ) (b : SendBuffer) (ring : List ℕ) (n : ℕ) (out : List ℕ) where
+module _ (now : ℕ) (b : SendBuffer) (ring : List ℕ) (given : Records) where
   test-is : (next : SeqNumber) (lost : List ℕ) → next.0 ≡ plus seqs b.front.0 b.sent
       → (eqb (next.0 % 16) 0 && ltb b.sent b.ring.len) ≡ is_sixteenth (state b ring lost)
   test-is next lost e = rw e
 
-  pub sixteen_sends : (next : SeqNumber) (w : Written) (words left : List ℕ) → next.0 ≡ plus seqs b.front.0 b.sent
+  pub sixteen_sends : (next : SeqNumber) (after : SendBuffer) (words : List ℕ) (left : Records) → next.0 ≡ plus seqs b.front.0 b.sent
       → (eqb (next.0 % 16) 0 && ltb b.sent b.ring.len) ≡ true
-      → Acts (next_turn now) b ring n out w words left
-      → Acts (sixteen_turn now) b ring n out w words left
+      → Acts (next_turn now) b ring given after words left
+      → Acts (sixteen_turn now) b ring given after words left
   unfolding sixteen_turn
-  sixteen_sends next w words left e y A =
-      acts_as (sixteen_turn now) (next_turn now) b ring n out w words left (λ lost. rw (sym (test-is next lost e) ∙ y)) A
+  sixteen_sends next after words left e y A =
+      acts_as (sixteen_turn now) (next_turn now) b ring given after words left (λ lost. rw (sym (test-is next lost e) ∙ y)) A
 
   pub sixteen_idle : (next : SeqNumber) → next.0 ≡ plus seqs b.front.0 b.sent
       → (eqb (next.0 % 16) 0 && ltb b.sent b.ring.len) ≡ false
-      → Acts (sixteen_turn now) b ring n out (record { buffer = b; count = n }) ring out
+      → Acts (sixteen_turn now) b ring given b ring given
   unfolding sixteen_turn written
   sixteen_idle next e y =
-      acts_as (sixteen_turn now) idle b ring n out (record { buffer = b; count = n }) ring out (λ lost. rw (sym (test-is next lost e) ∙ y))
-      (record { is = λ lost. record { state = refl; count = omega arith; list = refl } })
+      acts_as (sixteen_turn now) idle b ring given b ring given (λ lost. rw (sym (test-is next lost e) ∙ y))
+      (record {
+        is = λ lost. record { acted = record { state = refl; count = omega arith; list = refl }; same = record { name = refl; long = refl } };
+      })
 
 -- books that represent a sender still do after the next unsent is sent
-pub sixteen_after : (now : ℕ) (b : SendBuffer) (ring : List ℕ) (n : ℕ) (out : List ℕ) (w : Written) (words left : List ℕ) → Standing b ring
+pub sixteen_after : (now : ℕ) (b : SendBuffer) (ring : List ℕ) (given : Records) (b₁ : SendBuffer) (words : List ℕ) (left : Records) → Standing b ring
     → b.sent < b.ring.len
     → now < 2 ^ 48
-    → Acts (next_turn now) b ring n out w words left
-    → Sixteen w.buffer now words
-sixteen_after now b ring n out w words left St h early A = record { ready = λ lost e. there e }
+    → Acts (next_turn now) b ring given b₁ words left
+    → Sixteen b₁ now words
+sixteen_after now b ring given b₁ words left St h early A = record { ready = λ lost e. there e }
   where
-    b₁ : SendBuffer
-    b₁ = w.buffer
-
     s : Sender
     s = St.ready.sender
 
@@ -68,7 +67,7 @@ sixteen_after now b ring n out w words left St h early A = record { ready = λ l
 
     S : Stands St.settings (state b₁ words St.lost) (Rules.send_next St.settings now false s).after
     S =
-        subst (λ (st : State). Stands St.settings st (Rules.send_next St.settings now false s).after) (sym (A.is St.lost).state)
+        subst (λ (st : State). Stands St.settings st (Rules.send_next St.settings now false s).after) (sym (A.is St.lost).acted.state)
         (next_refines St.ready.stands St.ready.kept now false h).state
 
     there : (eqb (plus seqs b₁.front.0 b₁.sent % 16) 0 && ltb b₁.sent b₁.ring.len) ≡ true → Sendable b₁ b₁.sent now words
@@ -78,31 +77,36 @@ sixteen_after now b ring n out w words left St h early A = record { ready = λ l
 
 -- ## Both
 
-pub next-count : (now : ℕ) (b : SendBuffer) (ring : List ℕ) (n : ℕ) (out : List ℕ) (w : Written) (words left : List ℕ)
-    → Acts (next_turn now) b ring n out w words left
-    → w.count ≡ n + 1
+pub next-count : (now : ℕ) (b : SendBuffer) (ring : List ℕ) (given : Records) (after : SendBuffer) (words : List ℕ) (left : Records)
+    → Acts (next_turn now) b ring given after words left
+    → left.count ≡ given.count + 1
 unfolding sent_as
-next-count now b ring n out w words left A = (A.is []).count
+next-count now b ring given after words left A = (A.is []).acted.count
 
-pub unsent_acts : (now : ℕ) (b : SendBuffer) (ring : List ℕ) (n : ℕ) (out : List ℕ) (w₁ : Written) (ring₁ out₁ : List ℕ) (w₂ : Written) (ring₂ out₂ : List ℕ)
-    → Acts (next_turn now) b ring n out w₁ ring₁ out₁
-    → Acts (sixteen_turn now) w₁.buffer ring₁ w₁.count out₁ w₂ ring₂ out₂
-    → Acts (unsent_turn now) b ring n out w₂ ring₂ out₂
+pub unsent_acts : (now : ℕ) (b : SendBuffer) (ring : List ℕ) (given : Records) (b₁ : SendBuffer) (ring₁ : List ℕ) (r₁ : Records) (b₂ : SendBuffer) (ring₂ : List ℕ) (r₂ : Records)
+    → Acts (next_turn now) b ring given b₁ ring₁ r₁
+    → Acts (sixteen_turn now) b₁ ring₁ r₁ b₂ ring₂ r₂
+    → Acts (unsent_turn now) b ring given b₂ ring₂ r₂
 unfolding unsent_turn
-unsent_acts now b ring n out w₁ ring₁ out₁ w₂ ring₂ out₂ A B = record { is = both }
+unsent_acts now b ring given b₁ ring₁ r₁ b₂ ring₂ r₂ A B = record {
+  is = λ lost.
+      let p = (A.is lost).same in
+      let q = (B.is lost).same in
+      record { acted = both lost; same = record { name = q.name ∙ p.name; long = q.long ∙ p.long } };
+}
   where
-    both : (lost : List ℕ) → Acted (unsent_turn now) (state b ring lost) n out (state w₂.buffer ring₂ lost) w₂.count out₂
+    both : (lost : List ℕ) → Acted (unsent_turn now) (state b ring lost) given.count given.list.now (state b₂ ring₂ lost) r₂.count r₂.list.now
     both lost =
         let t : Turned = next_turn now (state b ring lost) in
         let u : Turned = sixteen_turn now t.state in
-        let a = A.is lost in
-        let d = subst (λ (st : State). Acted (sixteen_turn now) st w₁.count out₁ (state w₂.buffer ring₂ lost) w₂.count out₂) a.state (B.is lost) in
+        let a = (A.is lost).acted in
+        let d = subst (λ (st : State). Acted (sixteen_turn now) st r₁.count r₁.list.now (state b₂ ring₂ lost) r₂.count r₂.list.now) a.state (B.is lost).acted in
         record {
           state = d.state;
           count = let e = length-append t.records u.records in omega (arith, e, a.count, d.count);
           list =
               d.list
-              ∙ ap (written w₁.count u.records) a.list
-              ∙ ap (λ (k : ℕ). written k u.records (written n t.records out)) a.count
-              ∙ sym (written-append n t.records u.records out);
+              ∙ ap (written r₁.count u.records) a.list
+              ∙ ap (λ (k : ℕ). written k u.records (written given.count t.records given.list.now)) a.count
+              ∙ sym (written-append given.count t.records u.records given.list.now);
         }

@@ -1,11 +1,12 @@
 -- What the code of the calls requires, and that it agrees with its definition.
 --   Counting s, counting                   the byte count with a message can be summed; it can if 2 and 3 don't apply
 --   then-accepted, then-refused, then_by   the tests after 2 and 3
---   short-is                               the code's tests for 2
+--   short-is                               a chain of the tests for 2 is the verdict; no code cites it now
 --   Pushable, pushable                     a message that no test refuses
 --   push-done, finished_as                 its answer, from what was pushed and what pacing answered
---   made-bad, made-refused, made-ready     a request for a new sender, by its settings and then by its mode
-use Rattle.std.specs.Prelude.{◌≡◌, Bool, cond, not, ◌||◌, ◌&&◌, List, ltb}
+--   made-bad, made-refused, made-ready     a request for a new sender, by its settings and then by its mode: steps of
+--                                          the definition, which no code cites now
+use Rattle.std.specs.Prelude.{◌≡◌, Bool, cond, not, ◌||◌, ◌&&◌, List, ltb, Option, Result, Ok, Err, ℕ}
 use Rattle.std.proofs.Math.Path.{refl}
 use Rattle.std.proofs.Common.{sym, ap, ◌∙◌, arith}
 use Rattle.std.proofs.Math.Bool.{true, false}
@@ -15,15 +16,10 @@ use Rattle.std.proofs.Math.ListN.{length}
 use borrow.Author.Tests.{ltb-false, leb-false}
 use Rattle.rules_refusals.specs.declared.Refusal.{Refusal}
 use Rattle.rules_refusals.specs.declared.Refusal.TheVariants.{BadSetting, BadTime, TooLong, CountFull}
-use Rattle.rules_refusals.specs.declared.Verdict.{Verdict}
-use Rattle.rules_refusals.specs.declared.Verdict.TheVariants.{Accepted, Refused}
-use Rattle.rules_refusals.specs.Verdict.{when, answer}
+use Rattle.rules_refusals.specs.Verdict.{Verdict, accepted, when, answer}
 use Rattle.refusals.specs.Laws.{when-accepted}
 use Rattle.rules_packets.specs.Split.{count}
 use Rattle.rules_pacing.specs.declared.SenderCongestionControl.{SenderCongestionControl}
-use Rattle.rules_pacing.specs.declared.Made as pacing
-use Rattle.rules_pacing.specs.declared.Made.TheVariants as control
-use Rattle.rules_pacing.specs.declared.Paced.{Paced}
 use Rattle.rules_pacing.specs.declared.LiveBandwidthMode.{LiveBandwidthMode}
 use Rattle.rules_pacing.specs.Period.{mode_in_range}
 use Rattle.rules_pacing.specs.Kept.{new}
@@ -44,12 +40,10 @@ use Rattle.buffer_push.specs.Message.{Pushing, work, pushing}
 use Rattle.buffer_push.specs.Message.Laws.{message-made}
 use Rattle.buffer_push.specs.Message.Whole.{Sendable}
 use Rattle.sender.specs.declared.Sender.{Sender}
-use Rattle.sender.specs.declared.Made.{Made}
-use Rattle.sender.specs.declared.Made.TheVariants as of
-use Rattle.sender.specs.declared.Messaged.{Messaged}
 use Rattle.sender.specs.SenderAndAreas.{Books, state_of, rules_of, areas_short, store_short, judge}
 use Rattle.sender.specs.SenderAndAreas.Laws.{judged}
 use Rattle.sender.specs.Calls.{sender_of, made, count_is_full, input_verdict, message_verdict, short_for, then, finished, area, done_by, done, judge_with_store}
+use Rattle.sender.specs.declared.Answer.{Answer}
 
 pub record Counting (s : Sender) : Type 0 where
   pub bytes : s.buffer.bytes < 2 ^ 62
@@ -57,18 +51,18 @@ pub record Counting (s : Sender) : Type 0 where
   pub size : s.settings.size ≤ 1_456
   pub overhead : s.settings.overhead ≤ 128
 
-pub then-accepted : (v w : Verdict) → then v w ≡ Accepted → (v ≡ Accepted) × (w ≡ Accepted)
-then-accepted Accepted w e = (refl, e)
-then-accepted (Refused r) w e = (e, absurd (let z : ◌≡◌ {A = ℕ} 0 1 = cc in omega arith))
+pub then-accepted : (v w : Verdict) → then v w ≡ accepted → (v ≡ accepted) × (w ≡ accepted)
+then-accepted (Ok _) w e = (refl, e)
+then-accepted (Err r) w e = (e, absurd (let z : ◌≡◌ {A = ℕ} 0 1 = cc in omega arith))
 
 module _ (v w : Verdict) (same : v ≡ w) where
-  pub then-refused : (x : Verdict) (r : Refusal) → v ≡ Refused r → Refused r ≡ then w x
+  pub then-refused : (x : Verdict) (r : Refusal) → v ≡ Err r → Err r ≡ then w x
   then-refused x r e = ap (λ (u : Verdict). then u x) (sym e ∙ same)
 
-  pub then_by : (x y : Verdict) → v ≡ Accepted → x ≡ y → x ≡ then w y
+  pub then_by : (x y : Verdict) → v ≡ accepted → x ≡ y → x ≡ then w y
   then_by x y e f = f ∙ ap (λ (u : Verdict). then u y) (sym e ∙ same)
 
-pub counting : (short : Bool) (g : Books) → judge short g ≡ Accepted → Counting g.sender
+pub counting : (short : Bool) (g : Books) → judge short g ≡ accepted → Counting g.sender
 counting short g e =
     let r = kept-ready (rules_of g) (state_of g) (judged short g e).buffer in
     let f = stands_facts r.stands r.kept in
@@ -89,7 +83,7 @@ unfolding store_short
 store_long c n r e = ltb-false n (store_size c) (sym (ap (λ (t : Bool). t && ltb n (store_size c)) r) ∙ e)
 
 module _ (g : Books) (time now : ℕ) (payload store : List ℕ) where
-  pub pushable : message_verdict g time now (length payload) (length store) ≡ Accepted → Pushable g time now payload store
+  pub pushable : message_verdict g time now (length payload) (length store) ≡ accepted → Pushable g time now payload store
   unfolding message_verdict input_verdict count_is_full
   pushable e =
       let n : ℕ = length payload in
@@ -114,7 +108,7 @@ module _ (g : Books) (time now : ℕ) (payload store : List ℕ) where
         paced = PacingLaws.accepted g.sender.pacing now k n j.pacing (leb-false _ _ times.1) counts.1;
       }
 
-  module _ (A : Pushable g time now payload store) (p : Pushed) (ring lost over : List ℕ) (q : Paced) (a : Messaged)
+  module _ (A : Pushable g time now payload store) (p : Pushed) (ring lost over : List ℕ) (q : Result (Option ℕ × SenderCongestionControl) Refusal) (a : Result (Sender × Answer) Refusal)
       (e : pushing (work p ring lost) over ≡ Message.message (rules_of g) time payload (state_of g) store) (f : q ≡ on_input g.sender.pacing now p.made (length payload))
       (h : a ≡ finished g.sender.settings p q) where
     made-is : p.made ≡ count g.sender.settings.size (length payload)
@@ -127,16 +121,16 @@ module _ (g : Books) (time now : ℕ) (payload store : List ℕ) where
     unfolding done
     push-done = rw (h, paced-is) (ap (done_by g.sender now (length payload)) e)
 
-pub finished_as : (c : code.Settings) (p : Pushed) (q x : Paced) → q ≡ x → finished c p x ≡ finished c p q
+pub finished_as : (c : code.Settings) (p : Pushed) (q x : Result (Option ℕ × SenderCongestionControl) Refusal) → q ≡ x → finished c p x ≡ finished c p q
 finished_as c p q x e = ap (finished c p) (sym e)
 
 -- the answer from the new books and from what pacing answered
-abbrev start : code.Settings → pacing.Made → Made
-start c (control.Control p) = of.Ready (sender_of c (fresh (settings_of c)) p)
-start c (control.Refused r) = of.Refused r
+abbrev start : code.Settings → Result SenderCongestionControl Refusal → Result Sender Refusal
+start c (Ok p) = Ok (sender_of c (fresh (settings_of c)) p)
+start c (Err r) = Err r
 
 module _ (c : code.Settings) (mode : LiveBandwidthMode) where
-  pub made-bad : in_range (settings_of c) ≡ false → of.Refused BadSetting ≡ made c mode
+  pub made-bad : in_range (settings_of c) ≡ false → Err BadSetting ≡ made c mode
   unfolding made new_verdict
   made-bad e = rw e
 
@@ -144,14 +138,14 @@ module _ (c : code.Settings) (mode : LiveBandwidthMode) where
   unfolding made new_verdict new
   made_by e = rw e (go (mode_in_range mode))
     where
-      go : (t : Bool) → start c (cond t (control.Control (PacingBooks.fresh mode)) (control.Refused BadSetting))
-          ≡ answer of.Refused (when (not (true && t)) BadSetting Accepted) (of.Ready (sender_of c (fresh (settings_of c)) (PacingBooks.fresh mode)))
+      go : (t : Bool) → start c (cond t (Ok (PacingBooks.fresh mode)) (Err BadSetting))
+          ≡ answer Err (when (not (true && t)) BadSetting accepted) (Ok (sender_of c (fresh (settings_of c)) (PacingBooks.fresh mode)))
       go true = refl
       go false = refl
 
-  module _ (e : in_range (settings_of c) ≡ true) (m : pacing.Made) (same : m ≡ new mode) where
-    pub made-refused : (r : Refusal) → m ≡ control.Refused r → of.Refused r ≡ made c mode
+  module _ (e : in_range (settings_of c) ≡ true) (m : Result SenderCongestionControl Refusal) (same : m ≡ new mode) where
+    pub made-refused : (r : Refusal) → m ≡ Err r → Err r ≡ made c mode
     made-refused r h = ap (start c) (sym h ∙ same) ∙ made_by e
 
-    pub made-ready : (b : SendBuffer) (p : SenderCongestionControl) → m ≡ control.Control p → b ≡ fresh (settings_of c) → of.Ready (sender_of c b p) ≡ made c mode
+    pub made-ready : (b : SendBuffer) (p : SenderCongestionControl) → m ≡ Ok p → b ≡ fresh (settings_of c) → Ok (sender_of c b p) ≡ made c mode
     made-ready b p h f = rw f (ap (start c) (sym h ∙ same) ∙ made_by e)

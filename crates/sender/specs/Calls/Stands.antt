@@ -8,24 +8,19 @@
 --   message-short, message-broken       if an area is too short; and otherwise, if the books break a rule
 --   made-verdict, new_refines           a request for a new sender: its verdict; the new sender is the fresh one of the
 --                                       rules
-use Rattle.std.specs.Prelude.{◌≡◌, Bool, true, false, cond, List, [], ◌∷◌, leb, eqb}
+use Rattle.std.specs.Prelude.{◌≡◌, Bool, true, false, cond, List, [], ◌∷◌, leb, eqb, Option, Some, None, Result, Ok, Err, ℕ}
 use Rattle.std.proofs.Math.Path.{refl, sym, ap}
 use Rattle.std.proofs.Common.{◌∙◌}
-use Rattle.std.proofs.Math.Option.{Option, none, some}
 use Prim.Native.Nat.{ℕ, ◌*◌, ◌≤◌}
 use Rattle.std.proofs.Math.ListN.{length}
 use borrow.Author.Tests.{le-ltb}
 use Rattle.rules_refusals.specs.declared.Refusal.{Refusal}
 use Rattle.rules_refusals.specs.declared.Refusal.TheVariants.{BadStore, BadState}
-use Rattle.rules_refusals.specs.declared.Verdict.{Verdict}
-use Rattle.rules_refusals.specs.declared.Verdict.TheVariants.{Accepted, Refused}
 use Rattle.rules_refusals.specs.Table.{number_of}
-use Rattle.rules_refusals.specs.Verdict.{answer}
+use Rattle.rules_refusals.specs.Verdict.{Verdict, accepted, answer}
 use Rattle.laws.specs.Choice.{cond-by}
 use Rattle.rules_packets.specs.Split.{count}
 use Rattle.rules_pacing.specs.declared.SenderCongestionControl.{SenderCongestionControl}
-use Rattle.rules_pacing.specs.declared.Paced.{Paced}
-use Rattle.rules_pacing.specs.declared.Paced.TheVariants as paced
 use Rattle.rules_pacing.specs.declared.LiveBandwidthMode.{LiveBandwidthMode}
 use Rattle.rules_pacing.specs.Kept as Pacing
 use Rattle.rules_pacing.specs.Pacing.{after, due, input, moved, snd_period}
@@ -43,31 +38,26 @@ use Rattle.buffer_push.specs.declared.Pushed.{Pushed}
 use Rattle.buffer_push.specs.Message as Message
 use Rattle.buffer_push.specs.Message.Laws.{message_refines as buffer-refines, message-made, message-said, message-store}
 use Rattle.sender.specs.declared.Sender.{Sender}
-use Rattle.sender.specs.declared.Made.{Made}
-use Rattle.sender.specs.declared.Made.TheVariants as start
-use Rattle.sender.specs.declared.NewPeriod.{NewPeriod}
-use Rattle.sender.specs.declared.NewPeriod.TheVariants as period
-use Rattle.sender.specs.declared.Messaged.{Messaged}
-use Rattle.sender.specs.declared.Messaged.TheVariants as messaged
 use Rattle.sender.specs.SenderAndAreas.{Books, books, state_of, rules_of, store_short, kept, judge}
 use Rattle.sender.specs.SenderAndAreas.Stands.{StandsFor, stands_as, areas-long, judge-accepted, judge-short, judge-broken}
 use Rattle.sender.specs.Calls.{sender_of, made, count_is_full, input_verdict, message_verdict, short_for, finished, Messages, area, pushed_of, done, message}
+use Rattle.sender.specs.declared.Answer.{Answer}
 
-abbrev pub verdict_of : Messaged → Verdict
-verdict_of (messaged.Done s a) = Accepted
-verdict_of (messaged.Refused r) = Refused r
+abbrev pub verdict_of : Result (Sender × Answer) Refusal → Verdict
+verdict_of (Ok (s, a)) = accepted
+verdict_of (Err r) = Err r
 
-abbrev pub period_in : NewPeriod → Option ℕ
-period_in period.None = none
-period_in (period.Set n) = some n
+abbrev pub period_in : Option ℕ → Option ℕ
+period_in None = None
+period_in (Some n) = Some n
 
-abbrev pub said_of : Messaged → calls.Said
-said_of (messaged.Done s a) = calls.Pushed a.made a.removed a.bytes (period_in a.period)
-said_of (messaged.Refused r) = calls.Nothing
+abbrev pub said_of : Result (Sender × Answer) Refusal → calls.Said
+said_of (Ok (s, a)) = calls.Pushed a.made a.removed a.bytes (period_in a.period)
+said_of (Err r) = calls.Nothing
 
-abbrev pub sender_after : Sender → Messaged → Sender
-sender_after s (messaged.Done t a) = t
-sender_after s (messaged.Refused r) = s
+abbrev pub sender_after : Sender → Result (Sender × Answer) Refusal → Sender
+sender_after s (Ok (t, a)) = t
+sender_after s (Err r) = s
 
 -- the outcome l of the call is the answer a of the rules, and it leaves the same store
 pub record Answers (g : Books) (bytes : List ℕ) (l : Messages) (a : calls.Answer) : Type 0 where
@@ -88,8 +78,8 @@ push-pacing c [] s = refl
 push-pacing c (p ∷ ps) s = push-pacing c ps (append c p (make_room c s)) ∙ room-pacing c s
 
 -- the answer to an accepted message, whether or not an estimate is due
-record Finished (c : code.Settings) (s : Sender) (p : Pushed) (q : Paced) (kept : SenderCongestionControl) : Type 0 where
-  pub verdict : verdict_of (finished c p q) ≡ Accepted
+record Finished (c : code.Settings) (s : Sender) (p : Pushed) (q : Result (Option ℕ × SenderCongestionControl) Refusal) (kept : SenderCongestionControl) : Type 0 where
+  pub verdict : verdict_of (finished c p q) ≡ accepted
   pub said : said_of (finished c p q) ≡ calls.Pushed p.made p.removed p.bytes (period_of q)
   pub sender : sender_after s (finished c p q) ≡ sender_of c p.buffer kept
 
@@ -97,7 +87,7 @@ finished-is : (c : code.Settings) (s : Sender) (p : Pushed) (k : SenderCongestio
 unfolding input
 finished-is c s p k now m n = go (due k.next now)
   where
-    go : (t : Bool) → Finished c s p (cond t (paced.Period (snd_period (moved k now)) (after k now m n)) (paced.Silent (after k now m n))) (after k now m n)
+    go : (t : Bool) → Finished c s p (cond t (Ok (Some (snd_period (moved k now)), after k now m n)) (Ok (None, after k now m n))) (after k now m n)
     go true = record { verdict = refl; said = refl; sender = refl }
     go false = record { verdict = refl; said = refl; sender = refl }
 
@@ -113,7 +103,7 @@ module _ (g : Books) (s : rules.Sender) (S : StandsFor g s) (K : Kept (rules_of 
     unfolding store_short
     store_long = rw (K.fields.settings, le-ltb (length store) (store_size c) room)
 
-    judged : judge (short_for g (length store)) g ≡ Accepted
+    judged : judge (short_for g (length store)) g ≡ accepted
     judged = judge-accepted g s S K (short_for g (length store)) (rw (areas-long g s S, store_long))
 
     pub verdict-is : message_verdict g time now (length payload) (length store) ≡ tests.message_verdict c time now (length payload) s
@@ -128,16 +118,16 @@ module _ (g : Books) (s : rules.Sender) (S : StandsFor g s) (K : Kept (rules_of 
     pacing-is = push-pacing c (packets_of c time s.messages (length payload)) (begin c now (length payload) s)
 
     go : (v : Verdict) → Answers g (calls.store_by c v call s store)
-        (answer (λ r. area (messaged.Refused r) g.ring g.lost store) v (done g time now payload store)) (calls.answer_by c v call s)
+        (answer (λ r. area (Err r) g.ring g.lost store) v (done g time now payload store)) (calls.answer_by c v call s)
     unfolding calls.answer_by calls.store_by calls.left calls.with_rtt calls.said_by calls.after done
-    go (Refused r) = record {
+    go (Err r) = record {
       verdict = refl;
       said = refl;
       settings = refl;
       stands = cond-by (StandsFor g) (eqb (number_of r) 11) s s (λ q. S) (λ q. S);
       store = refl;
     }
-    go Accepted =
+    go (Ok _) =
         let n : ℕ = length payload in
         let made = message-made S.buffer time now payload store in
         let F = finished-is g.sender.settings g.sender (pushed_of pushed.work) g.sender.pacing now pushed.work.made n in
@@ -157,7 +147,7 @@ module _ (g : Books) (s : rules.Sender) (S : StandsFor g s) (K : Kept (rules_of 
 
 module _ (g : Books) (time now : ℕ) (payload store : List ℕ) where
   abbrev refused : Refusal → Messages
-  refused r = area (messaged.Refused r) g.ring g.lost store
+  refused r = area (Err r) g.ring g.lost store
 
   pub message-short : short_for g (length store) ≡ true → message g time now payload store ≡ refused BadStore
   unfolding message message_verdict
@@ -169,18 +159,18 @@ module _ (g : Books) (time now : ℕ) (payload store : List ℕ) where
 
 -- ## A request for a new sender
 
-abbrev pub made_verdict : Made → Verdict
-made_verdict (start.Ready s) = Accepted
-made_verdict (start.Refused r) = Refused r
+abbrev pub made_verdict : Result Sender Refusal → Verdict
+made_verdict (Ok s) = accepted
+made_verdict (Err r) = Err r
 
 module _ (c : code.Settings) (mode : LiveBandwidthMode) where
   pub made-verdict : made_verdict (made c mode) ≡ tests.new_verdict (settings_of c) mode
   unfolding made
   made-verdict = go (tests.new_verdict (settings_of c) mode)
     where
-      go : (v : Verdict) → made_verdict (answer start.Refused v (start.Ready (sender_of c (fresh (settings_of c)) (Pacing.fresh mode)))) ≡ v
-      go Accepted = refl
-      go (Refused r) = refl
+      go : (v : Verdict) → made_verdict (answer Err v (Ok (sender_of c (fresh (settings_of c)) (Pacing.fresh mode)))) ≡ v
+      go (Ok _) = refl
+      go (Err r) = refl
 
   -- "at start", in any areas that are long enough
   pub new_refines : (ring lost : List ℕ) → in_range (settings_of c) ≡ true → capacity (settings_of c) * 6 ≤ length ring → capacity (settings_of c) ≤ length lost

@@ -4,12 +4,12 @@
 --   stands_as                                   the same for an equal sender
 --   areas-long                                  its areas are long enough
 --   judge-accepted, judge-broken, judge-short   the verdict of the two tests
-use Rattle.std.specs.Prelude.{◌≡◌, refl, Bool, true, ◌&&◌, ◌||◌, List, ℕ, ◌*◌, length}
+use Rattle.std.specs.Prelude.{◌≡◌, refl, Bool, true, ◌&&◌, ◌||◌, List, ℕ, ◌*◌, length, Err}
 use Rattle.std.proofs.Math.Bool.{false, and-eq-true_iff}
 use Rattle.std.proofs.Math.Dec.{ltb}
 use borrow.Author.Tests.{le-ltb}
 use Rattle.rules_refusals.specs.declared.Refusal.TheVariants.{BadStore, BadState}
-use Rattle.rules_refusals.specs.declared.Verdict.TheVariants.{Accepted, Refused}
+use Rattle.rules_refusals.specs.Verdict.{accepted}
 use Rattle.rules_pacing.specs.Kept as Pacing
 use Rattle.rules.specs.Settings.{in_range, capacity}
 use Rattle.rules.specs.Sender as rules
@@ -46,7 +46,7 @@ module _ (g : Books) (s : rules.Sender) (S : StandsFor g s) where
       go true = rw (ring, lost)
       go false = refl
 
-  pub judge-accepted : Kept (rules_of g) s → (short : Bool) → short ≡ false → judge short g ≡ Accepted
+  pub judge-accepted : Kept (rules_of g) s → (short : Bool) → short ≡ false → judge short g ≡ accepted
   unfolding judge
   judge-accepted K short e = rw (e, kept-is K)
 
@@ -62,10 +62,10 @@ module _ (g : Books) (e : kept g ≡ true) where
   pub seen-kept : Kept (rules_of g) (seen_as g.sender.pacing (state_of g))
   seen-kept = kept_rules (rules_of g) (state_of g) parts.0 g.sender.pacing parts.1
 
-pub judge-short : (g : Books) → judge true g ≡ Refused BadStore
+pub judge-short : (g : Books) → judge true g ≡ Err BadStore
 unfolding judge
 judge-short g = refl
 
-pub judge-broken : (g : Books) → kept g ≡ false → judge false g ≡ Refused BadState
+pub judge-broken : (g : Books) → kept g ≡ false → judge false g ≡ Err BadState
 unfolding judge
 judge-broken g e = rw e

@@ -1,28 +1,21 @@
 -- `action_records::Kind::number` meets its contract, kind by kind.
-use Rattle.std.proofs.Common.{arith, refl}
+use Rattle.std.proofs.Common.{◌+◌, refl, arith}
+use denote.Enum.Declared.{tag_of}
 use Rattle.rules.specs.Records.{code}
+use Rattle.action_records.specs.contracts.Kind.{the_type}
+use Rattle.action_records.specs.declared.Kind.{Kind}
+use Rattle.action_records.specs.declared.Kind.TheVariants.{Send, RetransmitRto, RetransmitNak, Drop, WaitForInput, WaitForAck}
+use Rattle.action_records.specs.Record.{Numbered}
 use Rattle.action_records.proofs.Kind.number.Goals as goal
 
-pub returns-in-Send : goal.returns-in-Send
+numbered : (k : Kind) → Numbered k (tag_of the_type k + 1)
 unfolding code
-returns-in-Send c = rw c.in-Send.is (record { is = refl; small = omega arith })
+numbered Send = record { is = refl; small = omega arith }
+numbered RetransmitRto = record { is = refl; small = omega arith }
+numbered RetransmitNak = record { is = refl; small = omega arith }
+numbered Drop = record { is = refl; small = omega arith }
+numbered WaitForInput = record { is = refl; small = omega arith }
+numbered WaitForAck = record { is = refl; small = omega arith }
 
-pub returns-in-RetransmitRto : goal.returns-in-RetransmitRto
-unfolding code
-returns-in-RetransmitRto c = rw c.in-RetransmitRto.is (record { is = refl; small = omega arith })
-
-pub returns-in-RetransmitNak : goal.returns-in-RetransmitNak
-unfolding code
-returns-in-RetransmitNak c = rw c.in-RetransmitNak.is (record { is = refl; small = omega arith })
-
-pub returns-in-Drop : goal.returns-in-Drop
-unfolding code
-returns-in-Drop c = rw c.in-Drop.is (record { is = refl; small = omega arith })
-
-pub returns-in-WaitForInput : goal.returns-in-WaitForInput
-unfolding code
-returns-in-WaitForInput c = rw c.in-WaitForInput.is (record { is = refl; small = omega arith })
-
-pub returns-in-WaitForAck : goal.returns-in-WaitForAck
-unfolding code
-returns-in-WaitForAck c = rw c.in-WaitForAck.is (record { is = refl; small = omega arith })
+pub returns : goal.returns
+returns c = numbered c.args.self

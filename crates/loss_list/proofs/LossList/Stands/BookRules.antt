@@ -2,8 +2,8 @@
 --   stands-keeps, keeps-stands   the area's check is that of the rules, both ways: a list that passes it represents the
 --                                numbers `seen`
 --   keeps-ascends                and those ascend, as the rules require
-use Rattle.std.specs.Prelude.{◌≡◌, refl, true, List, [], ◌∷◌, ◌++◌, ℕ, suc, ◌+◌, ◌-◌, ◌^◌, ◌≤◌, ltb, length}
-use Rattle.std.proofs.Common.{sym, ap, ◌∙◌, append-nil, zero-le, arith, lt-ltb, le-leb, ltb-true}
+use Rattle.std.specs.Prelude.{◌≡◌, refl, true, List, [], ◌∷◌, ◌++◌, ℕ, suc, ◌+◌, ◌-◌, ◌^◌, ◌≤◌, ltb}
+use Rattle.std.proofs.Common.{sym, ap, ◌∙◌, append-nil, arith, lt-ltb, ltb-true}
 use Rattle.std.proofs.Math.Bool.{and-eq-true_iff}
 use Rattle.std.proofs.Math.Seq.{append_snoc}
 use Rattle.laws.specs.Ascending.{Ascends, widen, ascends_snoc}

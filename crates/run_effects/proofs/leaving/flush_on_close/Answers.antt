@@ -34,12 +34,8 @@ send_record-requires c =
     let k = stands_facts S K in
     (rw is e.time, rw is e.message, rw is (omega (arith, e.len, k.settings.size)))
 
-pub write-requires : goal.write-requires
-write-requires c = c.requires.n_in_bounds
-
 pub returns : goal.returns
 returns c =
     let k = stands_facts c.requires.flushable.ready.stands c.requires.flushable.ready.kept in
-    rw c.with_others.ensures
-    (flush_acts _ _ _ _ _ _ _ _ _ _ _ c.requires.flushable.one k.front c.entry-e.ensures c.wire_sizes-gone.ensures c.remove-rest.ensures
-    c.send_record.ensures c.write.ensures)
+    flush_acts _ _ _ _ _ _ _ _ _ _ c.requires.flushable.one k.front c.entry-e.ensures c.wire_sizes-gone.ensures c.remove-rest.ensures
+    c.send_record.ensures c.push.ensures

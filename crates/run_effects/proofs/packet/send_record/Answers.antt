@@ -4,4 +4,4 @@ use Rattle.run_effects.proofs.packet.send_record.Goals as goal
 
 pub returns : goal.returns
 returns c =
-    recorded _ _ _ _ _ _ c.smaller.ensures c.smaller-2.ensures c.stamp.ensures
+    recorded _ _ _ _ _ _ c.min.ensures c.min-2.ensures c.stamp.ensures

@@ -11,4 +11,4 @@ overflow_add-result c =
 
 pub returns : goal.returns
 unfolding stamped
-returns c = rw (c.smaller.ensures, c.resend_after.ensures)
+returns c = rw (c.min.ensures, c.resend_after.ensures)

@@ -4,4 +4,4 @@ use Rattle.run_effects.specs.Sending.Laws.{acts_as}
 use Rattle.run_effects.proofs.unsent.send_next_packet.Goals as goal
 
 pub returns : goal.returns
-returns c = acts_as _ _ _ _ _ _ _ _ _ (λ lost. refl) c.send_packet.ensures
+returns c = acts_as _ _ _ _ _ _ _ _ (λ lost. refl) c.send_packet.ensures

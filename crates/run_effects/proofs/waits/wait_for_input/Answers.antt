@@ -3,5 +3,4 @@ use Rattle.run_effects.specs.Sending.Rules.{input_waits}
 use Rattle.run_effects.proofs.waits.wait_for_input.Goals as goal
 
 pub returns : goal.returns
-returns c =
-    input_waits _ _ _ _ _ c.write.ensures c.plain.ensures
+returns c = input_waits _ _ _ _ c.push.ensures c.plain.ensures

@@ -1,5 +1,6 @@
 -- `sender::Sender::message` meets its contract: refused with nothing changed, or pushed.
 use Rattle.std.proofs.Common.{sym, ◌∙◌}
+use Rattle.std.proofs.lemmas.Result.{err_from_is_err_and}
 use Rattle.refusals.specs.Laws.{answer-refused, answer-accepted}
 use Rattle.sender.specs.Calls.{message}
 use Rattle.sender.specs.Calls.Laws.{pushable}
@@ -7,13 +8,4 @@ use Rattle.sender.proofs.Sender.message.Goals as goal
 
 pub push-requires : goal.push-requires
 push-requires c =
-    pushable _ _ _ _ _ (sym c.judge_message.ensures ∙ c.in-Accepted.is)
-
-pub returns-in-Refused : goal.returns-in-Refused
-unfolding message
-returns-in-Refused c = answer-refused _ _ _ _ c.judge_message.ensures _ c.in-Refused.is
-
-pub returns-in-Accepted : goal.returns-in-Accepted
-unfolding message
-returns-in-Accepted c =
-    c.push.ensures ∙ answer-accepted _ _ _ _ c.judge_message.ensures c.in-Accepted.is
+    pushable _ _ _ _ _ (sym c.judge_message.ensures ∙ c.in_ok-judge_message.was)

@@ -1,5 +1,0 @@
--- `compare_entries::of_message::compare_split_packet` meets its contract: it composes the contracts of its calls.
-use Rattle.compare_entries.proofs.of_message.compare_split_packet.Goals as goal
-
-pub returns : goal.returns
-returns c = cc

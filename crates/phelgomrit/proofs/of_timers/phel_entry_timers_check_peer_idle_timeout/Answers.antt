@@ -1,6 +1,0 @@
--- `phelgomrit::of_timers::phel_entry_timers_check_peer_idle_timeout` meets its contract: it composes the contracts of
--- its calls.
-use Rattle.phelgomrit.proofs.of_timers.phel_entry_timers_check_peer_idle_timeout.Goals as goal
-
-pub returns : goal.returns
-returns c = cc

@@ -1,5 +1,0 @@
--- `phelgomrit::of_timers::phel_entry_timers_new` meets its contract: it composes the contracts of its calls.
-use Rattle.phelgomrit.proofs.of_timers.phel_entry_timers_new.Goals as goal
-
-pub returns : goal.returns
-returns c = cc

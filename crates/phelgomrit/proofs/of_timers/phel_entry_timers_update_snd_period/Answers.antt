@@ -1,6 +1,0 @@
--- `phelgomrit::of_timers::phel_entry_timers_update_snd_period` meets its contract: it composes the contracts of its
--- calls.
-use Rattle.phelgomrit.proofs.of_timers.phel_entry_timers_update_snd_period.Goals as goal
-
-pub returns : goal.returns
-returns c = cc

@@ -1,8 +1,0 @@
--- `refusals::when` meets its contract, by the test.
-use Rattle.refusals.proofs.when.Goals as goal
-
-pub returns-then-test : goal.returns-then-test
-returns-then-test c = rw c.if-test.true
-
-pub returns-else-test : goal.returns-else-test
-returns-else-test c = rw c.if-test.false
