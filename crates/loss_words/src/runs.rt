@@ -24,6 +24,7 @@ pub struct Loss {
 }
 
 // The kind and reach of the number `m`, with `sent` packets sent from the front on.
+// Front and sent are the books'; a struct of the two for these calls would be no plainer.
 pub fn loss_of(front: SeqNumber, sent: u32, m: SeqNumber) -> Loss
     ensures { Reaches front.0 sent m.0 (word_of result.kind) result.count }
 {
