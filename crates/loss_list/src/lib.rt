@@ -45,6 +45,8 @@ pub fn nearest(list: &[u32]) -> SeqNumber
 }
 
 // The list's length without the numbers nearer the front than `x`. These are at its end, so the area stays as it is.
+// Not inlined: in one body with `enter`'s move, what the walk keeps no longer fits the registers.
+#[inline(never)]
 pub fn remove_below(list: &[u32], front: SeqNumber, x: SeqNumber) -> usize
     ensures { result ≡ staying (dist seqs front.0) (dist seqs front.0 x.0) (length list.now) list.now }
 {

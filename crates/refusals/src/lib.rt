@@ -3,6 +3,7 @@
 
 ghost use Rattle.std.specs.Prelude.{◌≡◌};
 ghost use Rattle.rules_refusals.specs.Table.{Numbered};
+ghost use Rattle.rules_refusals.specs.Verdict.{when};
 
 use rules_refusals::Refusal;
 
@@ -33,4 +34,14 @@ pub fn number(refusal: Refusal) -> u32
         Refusal::NoRoom => 13,
         Refusal::NotHeld => 14,
     }
+}
+
+// One test of a chain: its refusal if it holds, else what the later tests say. The calls' own chains return early instead.
+pub fn when(test: bool, refusal: Refusal, rest: Result<(), Refusal>) -> Result<(), Refusal>
+    ensures { result ≡ when test refusal rest }
+{
+    if test {
+        return Err(refusal);
+    }
+    rest
 }

@@ -27,7 +27,7 @@ loop-left-preserved c =
 pub returns-then-left-lt1 : goal.returns-then-left-lt1
 returns-then-left-lt1 c =
     let lent = c.loop-left.invariant.1 ∙ c.sweep-here.ensures.same.name in
-    let end = going_done _ _ _ _ _ c.loop-left.written _ c.loop-left.invariant.0 (omega (arith, c.if-left-lt1.true))
+    let end = going_done _ _ _ _ _ c.loop-left.invariant.0 (omega (arith, c.if-left-lt1.true))
     ∙ run-from _ _ _ _ _ _ _ _ c.sweep-here.ensures refl c.if-budget-lt1.false in
     grind (arith, lent, end)
 

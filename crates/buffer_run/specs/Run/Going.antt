@@ -4,7 +4,7 @@
 --   going_turning                     what a turn requires
 --   going_on, going_end, going_done   the run goes on after a turn, or ends with it; the budget is used up
 --   going_less                        a turn that goes on writes a record and costs a unit
-use Rattle.std.specs.Prelude.{◌≡◌, refl, Bool, true, false, List, length}
+use Rattle.std.specs.Prelude.{◌≡◌, refl, Bool, true, false, length}
 use Rattle.std.proofs.Common.{sym, ◌∙◌, subst, arith}
 use Rattle.std.proofs.Math.Path.{ap}
 use Prim.Native.Nat.{ℕ, zero, suc, ◌+◌, ◌-◌, ◌*◌, ◌^◌, ◌≤◌, ◌<◌, min}
@@ -53,12 +53,13 @@ module _ (c : Settings) (now : ℕ) (draining : Bool) where
             (subst (λ (x : Walk). InLoop c now draining (run c now draining (suc q) st given.list.now) (min (suc q) st.books.ring.len + 3) x) (sym (begins (suc q)))
             (swept_in c now draining R.early st given.list.now q (min (suc q) st.books.ring.len + 3) R.ready (omega arith))))
 
+  module _ (goal w : Walk) (G : Going c now draining goal w) where
+    pub going_done : w.left ≡ 0 → w ≡ goal
+    going_done e = loop-done c now draining goal G.room w G.inside e
+
   module _ (goal : Walk) (st : State) (given : Records) (b : ℕ) (G : Going c now draining goal (walk st given.list.now given.count b)) where
     abbrev w : Walk
     w = walk st given.list.now given.count b
-
-    pub going_done : w.left ≡ 0 → w ≡ goal
-    going_done e = loop-done c now draining goal G.room w G.inside e
 
     module _ (h : 0 < w.left) where
       pub going_turning : Turning c now st given
